@@ -1,0 +1,14 @@
+//! The plain label systems: triangle, heptad and counter.
+
+mod counter;
+mod heptad;
+mod refusal;
+mod triangle;
+
+pub use counter::Counter;
+pub use counter::system::CounterSystem;
+pub use heptad::Heptad;
+pub use heptad::HeptadSystem;
+pub use refusal::CounterRefusal;
+pub use triangle::Triangle;
+pub use triangle::TriangleSystem;
