@@ -1,25 +1,25 @@
 -- A plain system whose beats is one-way and whose choice is the least label that beats every entry shows the laws.
-use mathlib.Core.Path.{_≡_, refl, sym, ap, _∙_, subst}
-use mathlib.Core.List.{List, [], _∷_, _++_, map}
-use mathlib.Core.Bool.{Bool, true, false, cond, not, _&&_, _||_}
-use mathlib.Core.Logic.{_⊎_, inl, inr, ⊎-elim}
-use Prim.Native.Nat.{ℕ, zero, suc, _+_, _-_, _*_, _/_, _%_, _^_, _≤_, _<_}
+use mathlib.Core.Path.{_≡_, refl, sym, ap, subst}
+use mathlib.Core.List.{List, [], _∷_, _++_}
+use mathlib.Core.Bool.{Bool, true, _&&_}
+use mathlib.Core.Logic.{inl, inr}
+use Prim.Native.Nat.{ℕ, zero, suc, _≤_, _<_}
 use native.Mathlib.Omega.{arith}
 use lib.ListN.{length, getD}
-use lib.Dec.{eqb, ltb, leb}
+use lib.Dec.{ltb}
 use Rattle.std.specs.shelf.Lists.{All, kept-by, removed}
 use Rattle.std.specs.shelf.Sorted.{Shuffled}
 use Rattle.std.specs.declared.option.Option.{Option}
 use Rattle.std.specs.declared.option.Option.the-variants.{Some, None}
-use Rattle.std.proofs.shelf.Tests.{cases-eq, cases-bool, eqb-true, cond-true, cond-false, cond-both, cases-lt, both-ways, and-parts, and-from, ltb-true, ltb-false, leb-true, lt-ltb, le-ltb}
+use Rattle.std.proofs.shelf.Tests.{cases-eq, cond-true, cond-false, cond-both, cases-lt, and-parts, ltb-true, lt-ltb, le-ltb}
 use Rattle.std.proofs.shelf.Lists.{length-append}
-use Rattle.std.proofs.shelf.Elements.{all-push, all-getD, all-from-getD, all-kept-by, all-append}
+use Rattle.std.proofs.shelf.Elements.{all-push, all-getD, all-from-getD, all-kept-by}
 use Rattle.labels.specs.System.{InRange, Laws, LeadsAt}
 use Rattle.labels.specs.Least.{LeastChosen, ChoosesLeast, no-room}
-use Rattle.labels.specs.Plain.{Climbs, Distinct, Chain, ShortChain, plain, bounded}
-use Rattle.labels.proofs.Tally.{one, tally, one-same, one-is, one-other, one-le, one-pos, Within, all-tally, tally-all, tally-at, tally-two, other-place, place-of, tally-kept, tally-removed, tally-shuffled, within-length, length-pos, tally-append, shuffled-from-tally}
+use Rattle.labels.specs.Plain.{Climbs, Distinct, ShortChain, plain, bounded}
+use Rattle.labels.proofs.Tally.{tally, one-same, one-other, one-le, one-pos, Within, all-tally, tally-all, tally-at, tally-two, other-place, place-of, tally-kept, tally-removed, tally-shuffled, within-length, shuffled-from-tally}
 use Rattle.labels.proofs.Leaders.{at-from-leads, tally-added}
-use Rattle.labels.proofs.Exact.{none-is-no-label, some-or-none}
+use Rattle.labels.proofs.Exact.{some-or-none}
 
 -- each beats all before it, step by step
 abbrev Up : (ℕ → ℕ → Bool) → List ℕ → Type 0

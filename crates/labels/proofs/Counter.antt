@@ -2,7 +2,7 @@
 use mathlib.Core.Path.{_≡_, refl, sym, ap, _∙_, subst}
 use mathlib.Core.List.{List, [], _∷_}
 use mathlib.Core.Bool.{Bool, true, false, cond, _&&_}
-use mathlib.Core.Logic.{_⊎_, inl, inr}
+use mathlib.Core.Logic.{inl, inr}
 use Prim.Native.Nat.{ℕ, suc, _+_, _^_, _≤_, _<_, max}
 use native.Mathlib.Omega.{arith}
 use lib.ListN.{length, getD}
@@ -11,14 +11,14 @@ use Rattle.std.specs.shelf.Lists.{All}
 use Rattle.std.specs.Options.{Cases}
 use Rattle.std.specs.declared.option.Option.{Option}
 use Rattle.std.specs.declared.option.Option.the-variants.{Some, None}
-use Rattle.std.proofs.shelf.Tests.{cases-lt, cond-true, cond-false, cond-both, and-left, and-right, le-ltb, and-parts, and-from, and-cases, ltb-true, ltb-false, lt-ltb}
-use Rattle.std.proofs.shelf.Elements.{all-weaker, all-getD, all-from-getD}
+use Rattle.std.proofs.shelf.Tests.{cases-lt, cond-true, cond-both, and-parts, and-from, ltb-true, ltb-false, lt-ltb}
+use Rattle.std.proofs.shelf.Elements.{all-weaker, all-getD}
 use Rattle.labels.specs.System.{Laws}
-use Rattle.labels.specs.Least.{BeatsAll, LeastChosen, NothingChosen, no-room, no-label, no-winner, ChoosesLeast, JustAbove, IsLargest}
-use Rattle.labels.specs.Plain.{bounded, all-below, largest, past, counter-choice, counter}
-use Rattle.labels.proofs.Walks.{labels-from-below, no-label-at}
-use Rattle.labels.proofs.Exact.{exactly}
-use Rattle.labels.proofs.Chains.{Duties, plain-laws}
+use Rattle.labels.specs.Least.{BeatsAll, LeastChosen, NothingChosen, no-winner, ChoosesLeast, JustAbove, IsLargest}
+use Rattle.labels.specs.Plain.{bounded, takes-one-more, largest, past, counter-choice, counter}
+use Rattle.labels.proofs.Walks.{room-and-labels}
+use Rattle.labels.proofs.Exact.{exactly, nothing-without-room}
+use Rattle.labels.proofs.Chains.{plain-laws}
 
 largest-above : (l : List ℕ) → All (λ y. y ≤ largest l) l
 largest-above [] = tt
@@ -42,33 +42,21 @@ module _ (order ceiling : ℕ) where
   pub counter-least : 1 ≤ ceiling → (l : List ℕ) → ChoosesLeast (counter order ceiling) l (counter-choice order ceiling l)
   counter-least pos l =
       exactly (counter order ceiling) l (counter-choice order ceiling l)
-      (cond-both (ltb (length l) order && all-below ceiling l) (past ceiling l) None (λ r. Cases r (NothingChosen (counter order ceiling) l) (LeastChosen (counter order ceiling) l)) found passed-over)
+      (cond-both (takes-one-more order ceiling l) (past ceiling l) None (λ r. Cases r (NothingChosen (counter order ceiling) l) (LeastChosen (counter order ceiling) l)) (λ t. beyond l (room-and-labels order ceiling l t)) (nothing-without-room (counter order ceiling) l))
     where
-      beyond : (l : List ℕ) → length l < order → All (λ y. y < ceiling) l → Cases (past ceiling l) (NothingChosen (counter order ceiling) l) (LeastChosen (counter order ceiling) l)
-      beyond [] room labels = record { room = room; labels = labels; label = omega arith; beats-all = tt; least = λ z lt _. omega arith }
-      beyond (x ∷ xs) room labels =
+      beyond : (l : List ℕ) → (length l < order) × All (λ y. y < ceiling) l → Cases (past ceiling l) (NothingChosen (counter order ceiling) l) (LeastChosen (counter order ceiling) l)
+      beyond [] free = record { room = free .0; labels = tt; label = omega arith; beats-all = tt; least = λ z lt _. omega arith }
+      beyond (x ∷ xs) free =
           let top : ℕ = largest (x ∷ xs) + 1 in
           cond-both (ltb top ceiling) (Some top) None (λ r. Cases r (NothingChosen (counter order ceiling) (x ∷ xs)) (LeastChosen (counter order ceiling) (x ∷ xs)))
           (λ t. record {
-            room = room;
-            labels = labels;
+            room = free .0;
+            labels = free .1;
             label = ltb-true top ceiling t;
             beats-all = all-weaker (λ y. y ≤ largest (x ∷ xs)) (λ y. over top y ≡ true) (λ y h. over-from top y (ltb-true top ceiling t) (omega arith)) (x ∷ xs) (largest-above (x ∷ xs));
             least = λ z lt h. omega (arith, over-largest z x xs (above-from z (x ∷ xs) h));
           })
           (λ f. no-winner (λ z lt h. omega (arith, ltb-false top ceiling f, over-largest z x xs (above-from z (x ∷ xs) h))))
-
-      found : (ltb (length l) order && all-below ceiling l) ≡ true → Cases (past ceiling l) (NothingChosen (counter order ceiling) l) (LeastChosen (counter order ceiling) l)
-      found t =
-          let p = and-parts (ltb (length l) order) (all-below ceiling l) t in
-          beyond l (ltb-true (length l) order (p .0)) (labels-from-below ceiling l (p .1))
-
-      passed-over : (ltb (length l) order && all-below ceiling l) ≡ false → NothingChosen (counter order ceiling) l
-      passed-over f =
-          elim (and-cases (ltb (length l) order) (all-below ceiling l) f) [
-            | inl long ↦ no-room (ltb-false (length l) order long)
-            | inr stray ↦ let k = no-label-at ceiling l stray in no-label (k .0) (k .1) (k .2)
-          ]
 
   pub just-above : (l : List ℕ) (x : ℕ) → LeastChosen (counter order ceiling) l x → JustAbove l x
   just-above l x h = record {
@@ -105,31 +93,17 @@ largest-is l m h =
     let k = h .listed in
     omega (arith, above-every m l (h .at-least), all-getD (λ y. y ≤ largest l) l (k .0) 0 (k .1) (largest-above l), k .2)
 
--- the answers of a counter as the code comes to them
-module _ (order ceiling : ℕ) (l : List ℕ) where
-  pub not-listed : (order ≤ length l) ⊎ (all-below ceiling l ≡ false) → None ≡ counter-choice order ceiling l
-  not-listed (inl long) = sym (cond-false (ltb (length l) order && all-below ceiling l) (past ceiling l) None (and-left (ltb (length l) order) (all-below ceiling l) (le-ltb (length l) order long)))
-  not-listed (inr stray) = sym (cond-false (ltb (length l) order && all-below ceiling l) (past ceiling l) None (and-right (ltb (length l) order) (all-below ceiling l) stray))
+-- the choice where the list takes one more, as the code comes to it
+module _ (order ceiling : ℕ) (l : List ℕ) (free : takes-one-more order ceiling l ≡ true) where
+  listed : counter-choice order ceiling l ≡ past ceiling l
+  listed = cond-true (takes-one-more order ceiling l) (past ceiling l) None free
 
-  module _ (room : length l < order) (below : all-below ceiling l ≡ true) where
-    listed : counter-choice order ceiling l ≡ past ceiling l
-    listed = cond-true (ltb (length l) order && all-below ceiling l) (past ceiling l) None (and-from (ltb (length l) order) (all-below ceiling l) (lt-ltb (length l) order room) below)
+  pub largest-below : (m : ℕ) → IsLargest l m → m < ceiling
+  largest-below m h = let k = h .listed in subst (λ y. y < ceiling) (k .2) (all-getD (λ y. y < ceiling) l (k .0) 0 (k .1) (room-and-labels order ceiling l free .1))
 
-    pub first-label : l ≡ [] → Some 0 ≡ counter-choice order ceiling l
-    first-label e = sym (listed ∙ ap (past ceiling) e)
-
-    pub listed-below : (m : ℕ) → IsLargest l m → m < ceiling
-    listed-below m h = let k = h .listed in subst (λ y. y < ceiling) (k .2) (all-getD (λ y. y < ceiling) l (k .0) 0 (k .1) (labels-from-below ceiling l below))
-
-    past-largest : (m : ℕ) → IsLargest l m → counter-choice order ceiling l ≡ cond (ltb (m + 1) ceiling) (Some (m + 1)) None
-    past-largest m h = listed ∙ at l h (largest-is l m h)
-      where
-        at : (l : List ℕ) → IsLargest l m → largest l ≡ m → past ceiling l ≡ cond (ltb (m + 1) ceiling) (Some (m + 1)) None
-        at [] h e = absurd (omega (arith, h .listed .1))
-        at (x ∷ xs) h e = ap (λ n. cond (ltb (n + 1) ceiling) (Some (n + 1)) None) e
-
-    pub next-label : (m : ℕ) → IsLargest l m → m + 1 < ceiling → Some (m + 1) ≡ counter-choice order ceiling l
-    next-label m h lt = sym (past-largest m h ∙ cond-true (ltb (m + 1) ceiling) (Some (m + 1)) None (lt-ltb (m + 1) ceiling lt))
-
-    pub spent : (m : ℕ) → IsLargest l m → ceiling ≤ m + 1 → None ≡ counter-choice order ceiling l
-    spent m h ge = sym (past-largest m h ∙ cond-false (ltb (m + 1) ceiling) (Some (m + 1)) None (le-ltb (m + 1) ceiling ge))
+  pub past-largest : (m : ℕ) → IsLargest l m → counter-choice order ceiling l ≡ cond (ltb (m + 1) ceiling) (Some (m + 1)) None
+  past-largest m h = listed ∙ at l h (largest-is l m h)
+    where
+      at : (l : List ℕ) → IsLargest l m → largest l ≡ m → past ceiling l ≡ cond (ltb (m + 1) ceiling) (Some (m + 1)) None
+      at [] h e = absurd (omega (arith, h .listed .1))
+      at (x ∷ xs) h e = ap (λ n. cond (ltb (n + 1) ceiling) (Some (n + 1)) None) e

@@ -1,23 +1,23 @@
 -- The heptad chooses the least label that beats what is listed, and shows the laws.
-use mathlib.Core.Path.{_≡_, refl, sym, ap, _∙_, subst}
+use mathlib.Core.Path.{_≡_, refl, sym, ap, _∙_}
 use mathlib.Core.List.{List, [], _∷_}
 use mathlib.Core.Bool.{Bool, true, false, cond, not, _&&_, _||_}
 use mathlib.Core.Logic.{_⊎_, inl, inr, _↔_}
 use Prim.Native.Nat.{ℕ, zero, suc, _+_, _-_, _%_, _≤_, _<_}
 use native.Mathlib.Omega.{arith}
-use lib.ListN.{length, getD}
-use lib.Dec.{eqb, ltb, leb, lit≤}
+use lib.ListN.{length}
+use lib.Dec.{eqb, ltb, lit≤}
 use Rattle.std.specs.shelf.Lists.{All}
 use Rattle.std.specs.Options.{Cases, isSome}
 use Rattle.std.specs.declared.option.Option.{Option}
 use Rattle.std.specs.declared.option.Option.the-variants.{Some, None}
-use Rattle.std.proofs.shelf.Tests.{cases-eq, cond-true, cond-false, cond-both, and-left, and-right, lt-leb, both-ways, and-parts, and-from, and-cases, not-true, ltb-true, lt-ltb, leb-true, leb-false, le-leb, eqb-true, eq-eqb, or-cases, or-left, or-right}
+use Rattle.std.proofs.shelf.Tests.{cases-eq, cond-true, cond-false, cond-both, both-ways, and-parts, and-from, not-true, ltb-true, lt-ltb, eqb-true, eq-eqb, or-cases, or-left, or-right}
 use Rattle.labels.specs.System.{Laws}
-use Rattle.labels.specs.Least.{BeatsAll, LeastChosen, NothingChosen, no-room, no-label, no-winner, ChoosesLeast, AheadBySquare}
-use Rattle.labels.specs.Plain.{ahead, paley, bounded, every, all-below, beats-all, least-from, heptad-choice, heptad}
-use Rattle.labels.proofs.Walks.{all-from-every, every-from-all, labels-from-below, below-from-labels, no-label-at}
-use Rattle.labels.proofs.Exact.{exactly, none-is-no-label}
-use Rattle.labels.proofs.Chains.{Duties, plain-laws}
+use Rattle.labels.specs.Least.{LeastChosen, NothingChosen, no-winner, ChoosesLeast, AheadBySquare}
+use Rattle.labels.specs.Plain.{ahead, paley, bounded, takes-one-more, beats-all, least-from, heptad-choice, heptad}
+use Rattle.labels.proofs.Walks.{all-from-every, every-from-all, room-and-labels, takes-from}
+use Rattle.labels.proofs.Exact.{exactly, nothing-without-room}
+use Rattle.labels.proofs.Chains.{plain-laws}
 
 abbrev pub beats7 : ℕ → ℕ → Bool
 beats7 = bounded 7 paley
@@ -81,29 +81,17 @@ least-from-right beats l (suc n) y =
 pub heptad-least : (l : List ℕ) → ChoosesLeast heptad l (heptad-choice l)
 heptad-least l =
     exactly heptad l (heptad-choice l)
-    (cond-both (leb (length l) 2 && all-below 7 l) (least-from beats7 l 7 0) None (λ r. Cases r (NothingChosen heptad l) (LeastChosen heptad l)) found passed-over)
+    (cond-both (takes-one-more 3 7 l) (least-from beats7 l 7 0) None (λ r. Cases r (NothingChosen heptad l) (LeastChosen heptad l)) (λ t. found (least-from beats7 l 7 0) (room-and-labels 3 7 l t) (least-from-right beats7 l 7 0)) (nothing-without-room heptad l))
   where
-    listed : (r : Option ℕ) → length l ≤ 2 → All (λ y. y < 7) l → Cases r ((z : ℕ) → 0 ≤ z → z < 0 + 7 → beats-all beats7 z l ≡ true → ⊥) (λ x. (x < 0 + 7) × (beats-all beats7 x l ≡ true) × ((z : ℕ) → 0 ≤ z → z < x → beats-all beats7 z l ≡ true → ⊥)) → Cases r (NothingChosen heptad l) (LeastChosen heptad l)
-    listed None short labels h = no-winner (λ z lt b. h z (omega arith) (omega arith) (every-from-all (beats7 z) l b))
-    listed (Some x) short labels h = record {
-      room = omega arith;
-      labels = labels;
+    found : (r : Option ℕ) → (length l < 3) × All (λ y. y < 7) l → Cases r ((z : ℕ) → 0 ≤ z → z < 0 + 7 → beats-all beats7 z l ≡ true → ⊥) (λ x. (x < 0 + 7) × (beats-all beats7 x l ≡ true) × ((z : ℕ) → 0 ≤ z → z < x → beats-all beats7 z l ≡ true → ⊥)) → Cases r (NothingChosen heptad l) (LeastChosen heptad l)
+    found None free h = no-winner (λ z lt b. h z (omega arith) (omega arith) (every-from-all (beats7 z) l b))
+    found (Some x) free h = record {
+      room = free .0;
+      labels = free .1;
       label = omega (arith, h .0);
       beats-all = all-from-every (beats7 x) l (h .1);
       least = λ z lt b. h .2 z (omega arith) lt (every-from-all (beats7 z) l b);
     }
-
-    found : (leb (length l) 2 && all-below 7 l) ≡ true → Cases (least-from beats7 l 7 0) (NothingChosen heptad l) (LeastChosen heptad l)
-    found t =
-        let p = and-parts (leb (length l) 2) (all-below 7 l) t in
-        listed (least-from beats7 l 7 0) (leb-true (length l) 2 (p .0)) (labels-from-below 7 l (p .1)) (least-from-right beats7 l 7 0)
-
-    passed-over : (leb (length l) 2 && all-below 7 l) ≡ false → NothingChosen heptad l
-    passed-over f =
-        elim (and-cases (leb (length l) 2) (all-below 7 l) f) [
-          | inl long ↦ no-room (omega (arith, leb-false (length l) 2 long))
-          | inr stray ↦ let k = no-label-at 7 l stray in no-label (k .0) (k .1) (k .2)
-        ]
 
 -- a test of all numbers below n, computed
 abbrev up-to : (ℕ → Bool) → ℕ → Bool
@@ -136,19 +124,12 @@ heptad-laws = plain-laws 3 7 paley heptad-choice true (record {
 
     some : true ≡ true → (l : List ℕ) → length l < 3 → All (λ y. y < 7) l → heptad-choice l ≡ None → ⊥
     some _ l lt h n =
-        let test : Bool = leb (length l) 2 && all-below 7 l in
-        let listed : test ≡ true = and-from (leb (length l) 2) (all-below 7 l) (le-leb (length l) 2 (omega arith)) (below-from-labels 7 l h) in
-        let none : least-from beats7 l 7 0 ≡ None = sym (cond-true test (least-from beats7 l 7 0) None listed) ∙ n in
+        let none : least-from beats7 l 7 0 ≡ None = sym (cond-true (takes-one-more 3 7 l) (least-from beats7 l 7 0) None (takes-from 3 7 l lt h)) ∙ n in
         both-ways (isSome (least-from beats7 l 7 0)) (ap isSome none) (open-choice l lt h)
 
--- the answers of the heptad as the code comes to them
-module _ (l : List ℕ) where
-  pub not-listed : (3 ≤ length l) ⊎ (all-below 7 l ≡ false) → None ≡ heptad-choice l
-  not-listed (inl long) = sym (cond-false (leb (length l) 2 && all-below 7 l) (least-from beats7 l 7 0) None (and-left (leb (length l) 2) (all-below 7 l) (lt-leb (length l) 2 long)))
-  not-listed (inr stray) = sym (cond-false (leb (length l) 2 && all-below 7 l) (least-from beats7 l 7 0) None (and-right (leb (length l) 2) (all-below 7 l) stray))
-
-  pub listed : length l < 3 → all-below 7 l ≡ true → heptad-choice l ≡ least-from beats7 l 7 0
-  listed room below = cond-true (leb (length l) 2 && all-below 7 l) (least-from beats7 l 7 0) None (and-from (leb (length l) 2) (all-below 7 l) (le-leb (length l) 2 (omega arith)) below)
+-- the choice where the list takes one more
+pub listed : (l : List ℕ) → takes-one-more 3 7 l ≡ true → heptad-choice l ≡ least-from beats7 l 7 0
+listed l t = cond-true (takes-one-more 3 7 l) (least-from beats7 l 7 0) None t
 
 -- one candidate more: it is passed over, or it is the least
 module _ (beats : ℕ → ℕ → Bool) (l : List ℕ) (x n : ℕ) (within : x < n) where

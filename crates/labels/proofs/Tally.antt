@@ -1,20 +1,20 @@
--- How often a label stands in a list, and what that says of removals and of other orders. Assumes nothing.
+-- How often a label stands in a list, and what that says of removals and of other orders.
 use mathlib.Core.Path.{_≡_, refl, sym, ap, _∙_, subst}
 use mathlib.Core.List.{List, [], _∷_, _++_, map}
-use mathlib.Core.Bool.{Bool, true, false, cond, not}
-use mathlib.Core.Logic.{_⊎_, inl, inr, ⊎-elim}
-use Prim.Native.Nat.{ℕ, zero, suc, _+_, _-_, _*_, _≤_, _<_}
+use mathlib.Core.Bool.{Bool, true, false, cond}
+use mathlib.Core.Logic.{inl, inr}
+use Prim.Native.Nat.{ℕ, zero, suc, _+_, _≤_, _<_}
 use native.Mathlib.Omega.{arith}
-use lib.ListN.{length, getD, take, drop}
-use lib.Dec.{eqb, ltb, leb}
-use Rattle.std.specs.shelf.Lists.{All, removed, kept-by, sumBy, inserted}
+use lib.ListN.{length, getD}
+use lib.Dec.{eqb}
+use Rattle.std.specs.shelf.Lists.{All, removed, kept-by, sumBy}
 use Rattle.std.specs.shelf.Sorted.{Shuffled}
 use Rattle.std.proofs.shelf.Sums.{sumBy-cons}
-use Rattle.std.proofs.shelf.Sorted.{sumBy-shuffled, length-shuffled, shuffled-refl, shuffled-sym, shuffled-trans, shuffled-cons, shuffled-swap}
+use Rattle.std.proofs.shelf.Sorted.{sumBy-shuffled, length-shuffled, shuffled-refl, shuffled-trans, shuffled-cons, shuffled-swap}
 use Rattle.std.proofs.shelf.Lists.{append-nil, length-append, length-map, getD-map}
 use Rattle.std.proofs.shelf.Elements.{all-getD, all-from-getD}
 use Rattle.std.proofs.shelf.Edits.{getD-removed-below, getD-removed-above, length-removed}
-use Rattle.std.proofs.shelf.Tests.{cases-eq, cases-bool, eqb-true, eqb-false, eq-eqb, ne-eqb, cond-true, cond-false, cases-lt}
+use Rattle.std.proofs.shelf.Tests.{cases-eq, eq-eqb, ne-eqb, cond-true, cond-false, cases-lt}
 
 abbrev pub one : ℕ → ℕ → ℕ
 one y x = cond (eqb y x) 1 0
@@ -161,6 +161,3 @@ shuffled-from-tally l m same =
 
 pub within-length : (m l : List ℕ) → Within m l → length m ≤ length l
 within-length m l w = let r = rest-of m l w in omega (arith, length-shuffled l (m ++ r .0) (r .1), length-append m (r .0))
-
-pub length-pos : (x : ℕ) (l : List ℕ) → 0 < tally x l → 0 < length l
-length-pos x l h = let p = place-of x l h in omega (arith, p .1)

@@ -1,21 +1,20 @@
 -- The triangle chooses the least label that beats what is listed, and shows the laws.
-use mathlib.Core.Path.{_≡_, refl, sym, ap, _∙_}
+use mathlib.Core.Path.{_≡_, refl, sym, _∙_}
 use mathlib.Core.List.{List, [], _∷_}
-use mathlib.Core.Bool.{Bool, true, false, cond, _&&_}
-use mathlib.Core.Logic.{inl, inr}
-use Prim.Native.Nat.{ℕ, _+_, _%_, _≤_, _<_}
+use mathlib.Core.Bool.{Bool, true, _&&_}
+use Prim.Native.Nat.{ℕ, _<_}
 use native.Mathlib.Omega.{arith}
-use lib.ListN.{length, getD}
+use lib.ListN.{length}
 use lib.Dec.{eqb, ltb, lit<, lit≤}
 use Rattle.std.specs.shelf.Lists.{All}
 use Rattle.std.specs.Options.{Cases}
 use Rattle.std.specs.declared.option.Option.the-variants.{Some, None}
-use Rattle.std.proofs.shelf.Tests.{cases-bool, eqb-true, eq-eqb, cond-true, cond-false, cond-both, and-parts, and-from, ltb-true, ltb-false, lt-ltb}
+use Rattle.std.proofs.shelf.Tests.{eqb-true, eq-eqb, cond-true, cond-both, and-parts, and-from, ltb-true, ltb-false, lt-ltb}
 use Rattle.labels.specs.System.{Laws}
 use Rattle.labels.specs.Least.{LeastChosen, NothingChosen, no-room, no-label, ChoosesLeast}
 use Rattle.labels.specs.Plain.{next-in-ring, triangle-choice, triangle, bounded}
 use Rattle.labels.proofs.Exact.{exactly, none-is-no-label}
-use Rattle.labels.proofs.Chains.{Duties, plain-laws}
+use Rattle.labels.proofs.Chains.{plain-laws}
 
 abbrev ring : ℕ → ℕ → Bool
 ring a b = eqb a (next-in-ring b)

@@ -1,7 +1,7 @@
 -- What the plain systems' choices and the heptad's beats amount to, above the way in which they are computed.
 use mathlib.Core.Path.{_≡_}
 use mathlib.Core.List.{List}
-use mathlib.Core.Bool.{Bool, true}
+use mathlib.Core.Bool.{true}
 use mathlib.Core.Logic.{_⊎_, _↔_}
 use Prim.Native.Nat.{ℕ, _+_, _≤_, _<_, _%_}
 use lib.ListN.{length, getD}

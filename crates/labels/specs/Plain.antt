@@ -4,7 +4,7 @@ use mathlib.Core.List.{List, [], _∷_}
 use mathlib.Core.Bool.{Bool, true, false, cond, _&&_, _||_}
 use Prim.Native.Nat.{ℕ, zero, suc, _+_, _-_, _≤_, _<_, _%_, max}
 use lib.ListN.{length, getD}
-use lib.Dec.{ltb, leb, eqb}
+use lib.Dec.{ltb, eqb}
 use Rattle.std.specs.shelf.Lists.{All}
 use Rattle.std.specs.shelf.Sorted.{Shuffled}
 use Rattle.std.specs.declared.option.Option.{Option}
@@ -53,6 +53,10 @@ every test (x ∷ xs) = test x && every test xs
 abbrev pub all-below : ℕ → List ℕ → Bool
 all-below n l = every (λ x. ltb x n) l
 
+-- whether l leaves room for one more, and holds only labels
+abbrev pub takes-one-more : ℕ → ℕ → List ℕ → Bool
+takes-one-more order count l = ltb (length l) order && all-below count l
+
 -- whether x beats every entry
 abbrev pub beats-all : (ℕ → ℕ → Bool) → ℕ → List ℕ → Bool
 beats-all beats x l = every (beats x) l
@@ -83,7 +87,7 @@ least-from beats l zero x = None
 least-from beats l (suc n) x = cond (beats-all beats x l) (Some x) (least-from beats l n (x + 1))
 
 abbrev pub heptad-choice : List ℕ → Option ℕ
-heptad-choice l = cond (leb (length l) 2 && all-below 7 l) (least-from (bounded 7 paley) l 7 0) None
+heptad-choice l = cond (takes-one-more 3 7 l) (least-from (bounded 7 paley) l 7 0) None
 
 abbrev pub heptad : System
 heptad = plain 3 7 paley heptad-choice true
@@ -99,7 +103,7 @@ past ceiling [] = Some 0
 past ceiling (x ∷ xs) = cond (ltb (largest (x ∷ xs) + 1) ceiling) (Some (largest (x ∷ xs) + 1)) None
 
 abbrev pub counter-choice : ℕ → ℕ → List ℕ → Option ℕ
-counter-choice order ceiling l = cond (ltb (length l) order && all-below ceiling l) (past ceiling l) None
+counter-choice order ceiling l = cond (takes-one-more order ceiling l) (past ceiling l) None
 
 abbrev pub counter : ℕ → ℕ → System
 counter order ceiling = plain order ceiling (λ a b. ltb b a) (counter-choice order ceiling) false

@@ -1,6 +1,6 @@
 ghost use mathlib.Core.Path.{_≡_};
 ghost use Rattle.labels.specs.System.{System, Laws};
-ghost use Rattle.labels.specs.Plain.{all-below};
+ghost use Rattle.labels.specs.Plain.{all-below, takes-one-more};
 
 /// A label system: what it means, the laws that its meaning shows, and five calls that answer by it.
 /// No call refuses, and none changes the system.
@@ -30,8 +30,15 @@ pub trait LabelSystem {
         ensures { λ r. ⌜ r ≡ meaning (now (self .entry)) .choice (now (labels .entry)) ⌝ };
 }
 
+/// Whether a newcomer may be given a label beside `labels`: there are fewer than `order`, and each is below `count`.
+pub fn takes_one_more(labels: &[u32], order: u8, count: u32) -> bool
+    ensures { λ r. ⌜ r ≡ takes-one-more order count (now (labels .entry)) ⌝ }
+{
+    labels.len() < order as usize && all_below(labels, count)
+}
+
 /// Whether every entry of `labels` is below `count`.
-pub fn all_below(labels: &[u32], count: u32) -> bool
+fn all_below(labels: &[u32], count: u32) -> bool
     ensures { λ r. ⌜ r ≡ all-below count (now (labels .entry)) ⌝ }
 {
     for label in labels {

@@ -3,6 +3,8 @@
 mod counter;
 mod heptad;
 mod refusal;
+#[cfg(test)]
+mod tests;
 mod triangle;
 
 pub use counter::Counter;

@@ -1,19 +1,15 @@
--- The walk tests what is left of the list.
-use mathlib.Core.Path.{_≡_, sym, _∙_}
+-- The places passed are below the count, and the place at which the walk stops is not.
+use mathlib.Core.Path.{sym}
+use native.Mathlib.Omega.{arith}
 use lib.Dec.{ltb}
-use Rattle.std.proofs.shelf.Lists.{at-drop-all}
 use Rattle.std.proofs.shelf.Tests.{lt-ltb, le-ltb}
-use Rattle.labels.specs.Plain.{all-below}
-use Rattle.labels.proofs.Walks.{every-passed, every-settled}
+use Rattle.labels.proofs.Walks.{every-from-places, not-every-at}
 use Rattle.labels.proofs.all_below.Needs as need
 
 pub returns-then-label-count : need.returns-then-label-count
 returns-then-label-count c =
-    sym (every-settled (λ x. ltb x (c .args .count)) (c .args .labels .now) (c .loop-label .label-index) (c .loop-label-test .taken) (le-ltb _ _ (c .if-label-count .taken))) ∙ c .loop-label .inv
-
-pub loop-label-again : need.loop-label-again
-loop-label-again c =
-    every-passed (λ x. ltb x (c .args .count)) (c .args .labels .now) (c .loop-label .label-index) (c .loop-label-test .taken) (lt-ltb _ _ (c .if-label-count .left)) ∙ c .loop-label .inv
+    sym (not-every-at (λ x. ltb x (c .args .count)) (c .args .labels .now) (c .loop-label .label-index) (omega arith) (le-ltb _ (c .args .count) (omega arith)))
 
 pub returns : need.returns
-returns c = sym (at-drop-all (all-below (c .args .count)) (c .args .labels .now) (c .loop-label .label-index) (c .loop-label-test .left)) ∙ c .loop-label .inv
+returns c =
+    sym (every-from-places (λ x. ltb x (c .args .count)) (c .args .labels .now) (c .loop-label .label-index) (omega arith) (λ k lt. lt-ltb _ (c .args .count) (c .loop-label .inv k lt)))

@@ -1,7 +1,6 @@
-use mathlib.Core.Path.{_≡_}
-use lib.ListN.{drop}
-use Rattle.labels.specs.Plain.{all-below}
+use Prim.Native.Nat.{ℕ, _<_}
+use lib.ListN.{getD}
 use Rattle.labels.proofs.all_below.Given as given
 
 abbrev pub Inv-loop-label : given.InvT-loop-label
-Inv-loop-label l = all-below (l .count) (drop (l .label-index) (l .labels)) ≡ all-below (l .count) (l .labels)
+Inv-loop-label l = (k : ℕ) → k < l .label-index → getD (l .labels) k 0 < l .count

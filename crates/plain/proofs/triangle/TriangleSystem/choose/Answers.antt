@@ -1,16 +1,9 @@
--- Each arm gives the defined choice, and so the least label.
-use borrow.Author.Needs.{needs}
+-- The defined choice is the least label that beats what is listed.
 use Rattle.labels.specs.Plain.{triangle}
 use Rattle.labels.specs.Least.{ChoosesLeast}
 use Rattle.labels.proofs.Exact.{with-law}
 use Rattle.labels.proofs.Triangle.{triangle-least}
 use Rattle.plain.proofs.triangle.TriangleSystem.choose.Needs as need
 
-pub returns-in-empty : need.returns-in-empty
-returns-in-empty c = with-law (ChoosesLeast triangle (c .args .labels .now)) _ _ (triangle-least (c .args .labels .now)) (search needs)
-
-pub returns-in-len1 : need.returns-in-len1
-returns-in-len1 c = with-law (ChoosesLeast triangle (c .args .labels .now)) _ _ (triangle-least (c .args .labels .now)) (search needs)
-
-pub returns-in-rest : need.returns-in-rest
-returns-in-rest c = with-law (ChoosesLeast triangle (c .args .labels .now)) _ _ (triangle-least (c .args .labels .now)) (search needs)
+pub returns : need.returns
+returns c = with-law (ChoosesLeast triangle (c .args .labels .now)) _ _ (triangle-least (c .args .labels .now)) (c .next-in-ring .ensures)

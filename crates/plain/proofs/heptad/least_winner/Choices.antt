@@ -1,9 +1,9 @@
 use mathlib.Core.Path.{_≡_}
-use Prim.Native.Nat.{_-_, _≤_}
+use Prim.Native.Nat.{_-_}
 use lib.ListN.{drop}
 use Rattle.labels.specs.Plain.{least-from, beats-all}
 use Rattle.labels.proofs.Heptad.{beats7}
-use Rattle.plain.proofs.heptad.HeptadSystem.choose.Given as given
+use Rattle.plain.proofs.heptad.least_winner.Given as given
 
 -- no candidate so far beats every listed label
 abbrev pub Inv-candidate : given.InvT-candidate
