@@ -168,8 +168,8 @@ module _ (order count : ℕ) (beats : ℕ → ℕ → Bool) (choice : List ℕ �
   endless-some : endless ≡ true → (l : List ℕ) → ShortChain order count bounds l → length l < order → (x : ℕ) × (choice l ≡ Some x)
   endless-some e l h lt = elim (some-or-none (choice l)) [ inl n ↦ absurd (s .some e l lt (h .chain .labels) n) | inr p ↦ p ]
 
-  pub plain-laws : Laws (plain order count beats choice endless)
-  plain-laws = record {
+  pub lawful-plain : Laws (plain order count beats choice endless)
+  lawful-plain = record {
     between-labels = λ a b e. let p = parts a b e in (p .0, p .1);
     one-way = one-way;
     empty-lawful = record {

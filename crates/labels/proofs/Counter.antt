@@ -18,7 +18,7 @@ use Rattle.labels.specs.Least.{BeatsAll, LeastChosen, NothingChosen, no-winner
 use Rattle.labels.specs.Plain.{bounded, takes-one-more, largest, past, counter-choice, counter}
 use Rattle.labels.proofs.Walks.{room-and-labels}
 use Rattle.labels.proofs.Exact.{exactly, nothing-without-room}
-use Rattle.labels.proofs.Chains.{plain-laws}
+use Rattle.labels.proofs.Chains.{lawful-plain}
 
 largest-above : (l : List ℕ) → All (λ y. y ≤ largest l) l
 largest-above [] = tt
@@ -76,7 +76,7 @@ module _ (order ceiling : ℕ) where
       above (Some x) h = just-above l x (h .label-exactly x .0 refl)
 
   pub counter-laws : order ≤ 20 → 1 ≤ ceiling → ceiling ≤ 2 ^ 28 → Laws (counter order ceiling)
-  counter-laws few pos small = plain-laws order ceiling (λ a b. ltb b a) (counter-choice order ceiling) false (record {
+  counter-laws few pos small = lawful-plain order ceiling (λ a b. ltb b a) (counter-choice order ceiling) false (record {
     in-range = record { order-at-most = few; count-at-most = small };
     one-way = λ a b ha hb e f. omega (arith, ltb-true b a e, ltb-true a b f);
     least = counter-least pos;

@@ -17,7 +17,7 @@ use Rattle.labels.specs.Least.{LeastChosen, NothingChosen, no-winner, ChoosesL
 use Rattle.labels.specs.Plain.{ahead, paley, bounded, takes-one-more, beats-all, least-from, heptad-choice, heptad}
 use Rattle.labels.proofs.Walks.{all-from-every, every-from-all, room-and-labels, takes-from}
 use Rattle.labels.proofs.Exact.{exactly, nothing-without-room}
-use Rattle.labels.proofs.Chains.{plain-laws}
+use Rattle.labels.proofs.Chains.{lawful-plain}
 
 abbrev pub beats7 : ℕ → ℕ → Bool
 beats7 = bounded 7 paley
@@ -109,7 +109,7 @@ pairs-true : (test : ℕ → ℕ → Bool) → up-to (λ u. up-to (test u) 7) 7 
 pairs-true test e a b ha hb = up-to-true (test a) 7 (up-to-true (λ u. up-to (test u) 7) 7 e a ha) b hb
 
 pub heptad-laws : Laws heptad
-heptad-laws = plain-laws 3 7 paley heptad-choice true (record {
+heptad-laws = lawful-plain 3 7 paley heptad-choice true (record {
   in-range = record { order-at-most = lit≤ tt; count-at-most = lit≤ tt };
   one-way = λ a b ha hb e f. both-ways (paley a b && paley b a) (not-true (paley a b && paley b a) (pairs-true (λ u v. not (paley u v && paley v u)) refl a b ha hb)) (and-from (paley a b) (paley b a) e f);
   least = heptad-least;
