@@ -63,7 +63,7 @@ up-led beats x (y ∷ ys) h =
     )
 
 -- distinct labels, by tallies
-once-from-distinct : (l : List ℕ) → Distinct l → (x : ℕ) → tally x l ≤ 1
+pub once-from-distinct : (l : List ℕ) → Distinct l → (x : ℕ) → tally x l ≤ 1
 once-from-distinct l h x =
     elim (cases-lt 1 (tally x l)) [
       | inl two ↦
@@ -76,7 +76,7 @@ once-from-distinct l h x =
       | inr le ↦ le
     ]
 
-distinct-from-once : (l : List ℕ) → ((x : ℕ) → tally x l ≤ 1) → Distinct l
+pub distinct-from-once : (l : List ℕ) → ((x : ℕ) → tally x l ≤ 1) → Distinct l
 distinct-from-once l h i j lt hj e = omega (arith, h (getD l j 0), tally-two l i j (omega arith) hj (omega arith) e)
 
 chain-kept : (order count : ℕ) (beats : ℕ → ℕ → Bool) (k l : List ℕ) → Within k l → ShortChain order count beats l → ShortChain order count beats k
@@ -132,10 +132,11 @@ module _ (order count : ℕ) (beats : ℕ → ℕ → Bool) (choice : List ℕ �
       go [] same up = absurd (omega (arith, tally-at l 0 pos, tally-shuffled (getD l 0 0) l [] same))
       go (x ∷ xs) same up =
           let r = up-led bounds x xs up in
-          at-from-leads bounds l (r .0) (record {
+          let found = at-from-leads bounds l (r .0) (record {
             single = omega (arith, r .1, tally-shuffled (r .0) l (x ∷ xs) same, once-from-distinct l (h .chain .distinct) (r .0));
             ahead = λ b p d. r .2 b (omega (arith, tally-shuffled b l (x ∷ xs) same)) d;
-          })
+          }) in
+          (found .0, found .1)
 
   chosen-lawful : (l : List ℕ) (x : ℕ) → choice l ≡ Some x → ShortChain order count bounds l → ShortChain order count bounds (l ++ x ∷ [])
   chosen-lawful l x e h =

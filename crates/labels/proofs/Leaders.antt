@@ -29,7 +29,7 @@ leads-from-at beats l k loose h = record {
         let j = other-place l k (h .within) two in
         absurd (loose (getD l k 0) (subst (λ z. beats (getD l k 0) z ≡ true) (j .3) (h .beats-others (j .0) (j .1) (j .2))))
 
-pub at-from-leads : (beats : ℕ → ℕ → Bool) (l : List ℕ) (a : ℕ) → Leads beats l a → (k : ℕ) × LeadsAt beats l k
+pub at-from-leads : (beats : ℕ → ℕ → Bool) (l : List ℕ) (a : ℕ) → Leads beats l a → (k : ℕ) × LeadsAt beats l k × (getD l k 0 ≡ a)
 at-from-leads beats l a h =
     let p = place-of a l (omega (arith, h .single)) in
     let e : tally (getD l (p .0) 0) l ≡ 1 = ap (λ z. tally z l) (p .2) ∙ h .single in (
@@ -38,6 +38,7 @@ at-from-leads beats l a h =
         within = p .1;
         beats-others = λ j lt d. subst (λ z. beats z (getD l j 0) ≡ true) (sym (p .2)) (h .ahead (getD l j 0) (tally-at l j lt) (λ q. absurd (omega (arith, e, tally-two l j (p .0) lt (p .1) d (q ∙ sym (p .2))))));
       },
+      p .2,
     )
 
 -- one label more at the end

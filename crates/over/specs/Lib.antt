@@ -1,0 +1,4 @@
+pub mod Over
+pub mod Steps
+pub mod Piles
+pub mod Worked
