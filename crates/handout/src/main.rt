@@ -1,6 +1,8 @@
-//! Hands out labels to a rolling group of holders, over the heptad and over a counter, and prints each round.
+//! Hands out labels to rolling groups of holders, over the heptad, a counter and pile 4, and prints each round.
 
 use labels::LabelSystem;
+use piles::Pile4;
+use piles::Pile4System;
 use plain::Counter;
 use plain::CounterSystem;
 use plain::Heptad;
@@ -12,19 +14,24 @@ use std::error::AnyError;
 
 const ROUNDS: usize = 16;
 
+const LONG_ROUNDS: usize = 30;
+
 fn main(rt: LibcRuntime) -> Result<(), AnyError> {
-    show(&rt, "heptad", &Heptad)?;
+    show(&rt, "heptad", &Heptad, ROUNDS)?;
     match Counter::new(3, 10) {
-        Ok(counter) => show(&rt, "counter", &counter),
-        Err(refusal) => {
-            println!(rt, "counter refused {}", refusal.number())?;
-            Ok(())
-        }
+        Ok(counter) => show(&rt, "counter", &counter, ROUNDS)?,
+        Err(refusal) => println!(rt, "counter refused {}", refusal.number())?,
     }
+    show(&rt, "pile 4", &Pile4::new(), LONG_ROUNDS)
 }
 
 /// Prints the rounds of a rolling group over one system.
-fn show<S: LabelSystem>(rt: &LibcRuntime, name: &str, system: &S) -> Result<(), AnyError> {
+fn show<S: LabelSystem>(
+    rt: &LibcRuntime,
+    name: &str,
+    system: &S,
+    rounds: usize,
+) -> Result<(), AnyError> {
     let endless = if system.endless() {
         "endless"
     } else {
@@ -36,7 +43,7 @@ fn show<S: LabelSystem>(rt: &LibcRuntime, name: &str, system: &S) -> Result<(), 
         system.order(),
         system.count()
     )?;
-    let given = roll(rt.alloc(), system, ROUNDS)?;
+    let given = roll(rt.alloc(), system, rounds)?;
     for (round, label) in given.iter().enumerate() {
         let held = held_beside(system, &given[0..round]);
         let verdict = if beats_all(system, *label, held) {
@@ -50,7 +57,7 @@ fn show<S: LabelSystem>(rt: &LibcRuntime, name: &str, system: &S) -> Result<(), 
             round + 1
         )?;
     }
-    if given.len() < ROUNDS {
+    if given.len() < rounds {
         println!(rt, "no label is left after round {}", given.len())?;
     }
     Ok(())

@@ -1,4 +1,4 @@
--- A plain system whose beats is one-way and whose choice is the least label that beats every entry shows the laws.
+-- A plain system whose beats is one-way and whose choice beats every entry shows the laws.
 use mathlib.Core.Path.{_≡_, refl, sym, ap, subst}
 use mathlib.Core.List.{List, [], _∷_, _++_}
 use mathlib.Core.Bool.{Bool, true, _&&_}
@@ -14,8 +14,8 @@ use Rattle.std.specs.declared.option.Option.the-variants.{Some, None}
 use Rattle.std.proofs.shelf.Tests.{cases-eq, cond-true, cond-false, cond-both, cases-lt, and-parts, ltb-true, lt-ltb, le-ltb}
 use Rattle.std.proofs.shelf.Lists.{length-append}
 use Rattle.std.proofs.shelf.Elements.{all-push, all-getD, all-from-getD, all-kept-by}
-use Rattle.labels.specs.System.{InRange, Laws, LeadsAt}
-use Rattle.labels.specs.Least.{LeastChosen, ChoosesLeast, no-room}
+use Rattle.labels.specs.System.{System, InRange, Laws, LeadsAt}
+use Rattle.labels.specs.Least.{LeastChosen}
 use Rattle.labels.specs.Plain.{Climbs, Distinct, ShortChain, plain, bounded}
 use Rattle.labels.proofs.Tally.{tally, one-same, one-other, one-le, one-pos, Within, all-tally, tally-all, tally-at, tally-two, other-place, place-of, tally-kept, tally-removed, tally-shuffled, within-length, shuffled-from-tally}
 use Rattle.labels.proofs.Leaders.{at-from-leads, tally-added}
@@ -101,11 +101,17 @@ chain-kept order count beats k l w h =
       };
     }
 
+-- what a chosen label owes: it is a label that beats every entry, beside a list that has room
+pub record Given (order count : ℕ) (beats : ℕ → ℕ → Bool) (l : List ℕ) (x : ℕ) : Type 0 where
+  pub room : length l < order
+  pub label : x < count
+  pub beats-all : All (λ y. beats x y ≡ true) l
+
 -- what a plain system owes
 pub record Duties (order count : ℕ) (beats : ℕ → ℕ → Bool) (choice : List ℕ → Option ℕ) (endless : Bool) : Type 0 where
   pub in-range : InRange (plain order count beats choice endless)
   pub one-way : (a b : ℕ) → a < count → b < count → beats a b ≡ true → beats b a ≡ true → ⊥
-  pub least : (l : List ℕ) → ChoosesLeast (plain order count beats choice endless) l (choice l)
+  pub chosen : (l : List ℕ) (x : ℕ) → choice l ≡ Some x → Given order count (bounded count beats) l x
   -- a list of labels with room left always has a choice
   pub some : endless ≡ true → (l : List ℕ) → length l < order → All (λ y. y < count) l → choice l ≡ None → ⊥
 
@@ -121,9 +127,6 @@ module _ (order count : ℕ) (beats : ℕ → ℕ → Bool) (choice : List ℕ �
 
   one-way : (a b : ℕ) → bounds a b ≡ true → bounds b a ≡ true → ⊥
   one-way a b e f = let p = parts a b e in s .one-way a b (p .0) (p .1) (p .2) (parts b a f .2)
-
-  chosen : (l : List ℕ) (x : ℕ) → choice l ≡ Some x → LeastChosen (plain order count beats choice endless) l x
-  chosen l x e = s .least l .label-exactly x .0 e
 
   led : (l : List ℕ) → ShortChain order count bounds l → 0 < length l → (k : ℕ) × LeadsAt bounds l k
   led l h pos = go (h .chain .line) (h .chain .same) (up-from-climbs bounds (h .chain .line) (h .chain .climbs))
@@ -141,7 +144,7 @@ module _ (order count : ℕ) (beats : ℕ → ℕ → Bool) (choice : List ℕ �
   chosen-lawful : (l : List ℕ) (x : ℕ) → choice l ≡ Some x → ShortChain order count bounds l → ShortChain order count bounds (l ++ x ∷ [])
   chosen-lawful l x e h =
       let c = h .chain in
-      let p = chosen l x e in
+      let p = s .chosen l x e in
       let a = p .beats-all in
       let new : (y : ℕ) → tally y (l ++ x ∷ []) ≤ 1 = λ y.
       elim (cases-eq x y) [
@@ -164,7 +167,7 @@ module _ (order count : ℕ) (beats : ℕ → ℕ → Bool) (choice : List ℕ �
       }
 
   full-none : (l : List ℕ) → order ≤ length l → choice l ≡ None
-  full-none l h = s .least l .none-exactly .1 (no-room h)
+  full-none l h = elim (some-or-none (choice l)) [ inl n ↦ n | inr p ↦ absurd (omega (arith, s .chosen l (p .0) (p .1) .room)) ]
 
   endless-some : endless ≡ true → (l : List ℕ) → ShortChain order count bounds l → length l < order → (x : ℕ) × (choice l ≡ Some x)
   endless-some e l h lt = elim (some-or-none (choice l)) [ inl n ↦ absurd (s .some e l lt (h .chain .labels) n) | inr p ↦ p ]
@@ -182,10 +185,14 @@ module _ (order count : ℕ) (beats : ℕ → ℕ → Bool) (choice : List ℕ �
     lawful-short = λ l h. h .short;
     lawful-labels = λ l h. h .chain .labels;
     lawful-led = led;
-    chosen-label = λ l x e. chosen l x e .label;
-    chosen-beats = λ l x e h. chosen l x e .beats-all;
+    chosen-label = λ l x e. s .chosen l x e .label;
+    chosen-beats = λ l x e h. s .chosen l x e .beats-all;
     chosen-lawful = chosen-lawful;
     full-none = full-none;
     endless-some = endless-some;
     in-range = s .in-range;
   }
+
+-- a least choice is such a label
+pub given-from-least : (s : System) (l : List ℕ) (x : ℕ) → LeastChosen s l x → Given (s .order) (s .count) (s .beats) l x
+given-from-least s l x h = record { room = h .room; label = h .label; beats-all = h .beats-all }

@@ -18,9 +18,9 @@ use Rattle.labels.specs.Least.{BeatsAll, LeastChosen, NothingChosen, no-winner
 use Rattle.labels.specs.Plain.{bounded, takes-one-more, largest, past, counter-choice, counter}
 use Rattle.labels.proofs.Walks.{room-and-labels}
 use Rattle.labels.proofs.Exact.{exactly, nothing-without-room}
-use Rattle.labels.proofs.Chains.{lawful-plain}
+use Rattle.labels.proofs.Chains.{given-from-least, lawful-plain}
 
-largest-above : (l : List ℕ) → All (λ y. y ≤ largest l) l
+pub largest-above : (l : List ℕ) → All (λ y. y ≤ largest l) l
 largest-above [] = tt
 largest-above (x ∷ xs) = (omega arith, all-weaker (λ y. y ≤ largest xs) (λ y. y ≤ max x (largest xs)) (λ y h. omega arith) xs (largest-above xs))
 
@@ -30,10 +30,10 @@ over-largest z x [] h = omega (arith, h .0)
 over-largest z x (y ∷ ys) h = omega (arith, h .0, over-largest z y ys (h .1))
 
 module _ (order ceiling : ℕ) where
-  abbrev over : ℕ → ℕ → Bool
+  abbrev pub over : ℕ → ℕ → Bool
   over = bounded ceiling (λ a b. ltb b a)
 
-  over-from : (a b : ℕ) → a < ceiling → b < a → over a b ≡ true
+  pub over-from : (a b : ℕ) → a < ceiling → b < a → over a b ≡ true
   over-from a b ha lt = and-from (ltb a ceiling && ltb b ceiling) (ltb b a) (and-from (ltb a ceiling) (ltb b ceiling) (lt-ltb a ceiling ha) (lt-ltb b ceiling (omega arith))) (lt-ltb b a lt)
 
   above-from : (z : ℕ) (l : List ℕ) → BeatsAll (counter order ceiling) l z → All (λ y. y < z) l
@@ -79,7 +79,7 @@ module _ (order ceiling : ℕ) where
   counter-laws few pos small = lawful-plain order ceiling (λ a b. ltb b a) (counter-choice order ceiling) false (record {
     in-range = record { order-at-most = few; count-at-most = small };
     one-way = λ a b ha hb e f. omega (arith, ltb-true b a e, ltb-true a b f);
-    least = counter-least pos;
+    chosen = λ l x e. given-from-least (counter order ceiling) l x (counter-least pos l .label-exactly x .0 e);
     some = λ e. let z : _≡_ {A = ℕ} 0 1 = cc in absurd (omega arith);
   })
 

@@ -17,7 +17,7 @@ use Rattle.labels.specs.Least.{LeastChosen, NothingChosen, no-winner, ChoosesL
 use Rattle.labels.specs.Plain.{ahead, paley, bounded, takes-one-more, beats-all, least-from, heptad-choice, heptad}
 use Rattle.labels.proofs.Walks.{all-from-every, every-from-all, room-and-labels, takes-from}
 use Rattle.labels.proofs.Exact.{exactly, nothing-without-room}
-use Rattle.labels.proofs.Chains.{lawful-plain}
+use Rattle.labels.proofs.Chains.{given-from-least, lawful-plain}
 
 abbrev pub beats7 : ℕ → ℕ → Bool
 beats7 = bounded 7 paley
@@ -112,7 +112,7 @@ pub heptad-laws : Laws heptad
 heptad-laws = lawful-plain 3 7 paley heptad-choice true (record {
   in-range = record { order-at-most = lit≤ tt; count-at-most = lit≤ tt };
   one-way = λ a b ha hb e f. both-ways (paley a b && paley b a) (not-true (paley a b && paley b a) (pairs-true (λ u v. not (paley u v && paley v u)) refl a b ha hb)) (and-from (paley a b) (paley b a) e f);
-  least = heptad-least;
+  chosen = λ l x e. given-from-least heptad l x (heptad-least l .label-exactly x .0 e);
   some = some;
 })
   where

@@ -14,7 +14,7 @@ use Rattle.labels.specs.System.{Laws}
 use Rattle.labels.specs.Least.{LeastChosen, NothingChosen, no-room, no-label, ChoosesLeast}
 use Rattle.labels.specs.Plain.{next-in-ring, triangle-choice, triangle, bounded}
 use Rattle.labels.proofs.Exact.{exactly, none-is-no-label}
-use Rattle.labels.proofs.Chains.{lawful-plain}
+use Rattle.labels.proofs.Chains.{given-from-least, lawful-plain}
 
 abbrev ring : ℕ → ℕ → Bool
 ring a b = eqb a (next-in-ring b)
@@ -48,7 +48,7 @@ pub triangle-laws : Laws triangle
 triangle-laws = lawful-plain 2 3 ring triangle-choice true (record {
   in-range = record { order-at-most = lit≤ tt; count-at-most = lit≤ tt };
   one-way = λ a b ha hb e f. omega (arith, eqb-true a (next-in-ring b) e, eqb-true b (next-in-ring a) f);
-  least = triangle-least;
+  chosen = λ l x e. given-from-least triangle l x (triangle-least l .label-exactly x .0 e);
   some = some;
 })
   where

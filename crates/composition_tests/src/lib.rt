@@ -1,0 +1,4 @@
+//! Tests of compositions and piles.
+
+#[cfg(test)]
+mod tests;
