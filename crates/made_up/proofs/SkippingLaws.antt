@@ -1,16 +1,14 @@
 -- The skipping counter shows the laws.
-use mathlib.Core.Path.{_≡_, refl, sym, _∙_}
+use mathlib.Core.Path.{_≡_, sym, _∙_}
 use mathlib.Core.List.{List, [], _∷_}
 use mathlib.Core.Bool.{Bool, true, false, cond, _&&_}
 use mathlib.Core.Logic.{inl, inr}
-use Prim.Native.Nat.{ℕ, _+_, _%_, _≤_, _<_, max}
+use Prim.Native.Nat.{ℕ, _+_, _%_, _<_, max}
 use native.Mathlib.Omega.{arith}
-use lib.ListN.{length}
 use lib.Dec.{ltb, lit<, lit≤}
-use Rattle.std.specs.shelf.Lists.{All}
 use Rattle.std.specs.declared.option.Option.{Option}
 use Rattle.std.specs.declared.option.Option.the-variants.{Some, None}
-use Rattle.std.proofs.shelf.Tests.{cases-bool, cond-true, cond-false, and-parts, ltb-true}
+use Rattle.std.proofs.shelf.Tests.{cases-bool, cond-true, cond-false, ltb-true}
 use Rattle.labels.specs.System.{Laws}
 use Rattle.labels.specs.Plain.{bounded}
 use Rattle.labels.proofs.Exact.{none-is-no-label}

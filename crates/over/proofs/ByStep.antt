@@ -1,13 +1,12 @@
 -- The choice of one system over another, step by step, and as the relation that it amounts to.
 use mathlib.Core.Path.{_≡_, refl, sym, ap, _∙_, subst}
 use mathlib.Core.List.{List, [], _∷_}
-use mathlib.Core.Bool.{Bool, true, false, cond}
-use mathlib.Core.Logic.{_⊎_, inl, inr, _↔_}
-use Prim.Native.Nat.{ℕ, _+_, _*_, _/_, _%_, _≤_, _<_}
+use mathlib.Core.Bool.{true}
+use mathlib.Core.Logic.{inl, inr}
+use Prim.Native.Nat.{ℕ, _+_, _*_, _/_, _≤_, _<_}
 use native.Mathlib.Omega.{arith}
 use lib.ListN.{length, getD}
 use lib.Dec.{ltb, eqb}
-use Rattle.std.specs.shelf.Lists.{All}
 use Rattle.std.specs.declared.option.Option.{Option}
 use Rattle.std.specs.declared.option.Option.the-variants.{Some, None}
 use Rattle.std.proofs.shelf.Tests.{cases-bool, cases-lt, cond-true, cond-false, lt-ltb, le-ltb, eq-eqb, ne-eqb}
@@ -15,7 +14,7 @@ use Rattle.labels.specs.System.{System, Laws}
 use Rattle.labels.specs.Plain.{takes-one-more}
 use Rattle.labels.proofs.Tally.{tally, place-of, tally-at}
 use Rattle.labels.proofs.Chains.{distinct-from-once}
-use Rattle.labels.proofs.Exact.{none-is-no-label, some-or-none}
+use Rattle.labels.proofs.Exact.{none-is-no-label}
 use Rattle.labels.proofs.Walks.{room-and-labels, takes-from}
 use Rattle.over.specs.Over.{outer-parts, under, leader, joined, over-order, over-count, beside-leader, by-parts, over-choice}
 use Rattle.over.specs.Steps.{LedBy, Step, first, grows, outward, Chosen, ChoosesByStep}

@@ -1,28 +1,26 @@
 -- Two systems that show the laws show them one over the other.
 use mathlib.Core.Path.{_≡_, refl, sym, ap, _∙_, subst}
-use mathlib.Core.List.{List, [], _∷_, _++_, map}
-use mathlib.Core.Bool.{Bool, true, false, cond, not, _&&_, _||_}
-use mathlib.Core.Logic.{_⊎_, inl, inr, ⊎-elim}
-use Prim.Native.Nat.{ℕ, zero, suc, _+_, _-_, _*_, _/_, _%_, _^_, _≤_, _<_}
+use mathlib.Core.List.{List, [], _∷_, _++_}
+use mathlib.Core.Bool.{Bool, true, _&&_, _||_}
+use mathlib.Core.Logic.{_⊎_, inl, inr}
+use Prim.Native.Nat.{ℕ, _+_, _*_, _/_, _%_, _≤_, _<_}
 use native.Mathlib.Omega.{arith}
-use native.Mathlib.Nat.{div-add-mod', mod-lt, mul-zero, div-lt-iff-lt-mul}
+use native.Mathlib.Nat.{div-add-mod'}
 use lib.ListN.{length, getD}
-use lib.Arith.{digits-lt, digits-div, digits-mod}
-use lib.Dec.{eqb, ltb, leb}
-use Rattle.std.specs.shelf.Lists.{All, kept-by, removed}
+use lib.Arith.{digits-div, digits-mod}
+use lib.Dec.{eqb, ltb}
+use Rattle.std.specs.shelf.Lists.{All, removed}
 use Rattle.std.specs.shelf.Sorted.{Shuffled}
-use Rattle.std.specs.declared.option.Option.{Option}
 use Rattle.std.specs.declared.option.Option.the-variants.{Some, None}
-use Rattle.std.proofs.shelf.Tests.{cases-eq, cases-bool, eqb-true, eqb-false, eq-eqb, ne-eqb, cond-true, cond-false, cases-lt, both-ways, and-parts, and-from, or-cases, or-left, or-right, ltb-true, leb-true, lt-ltb, le-ltb, and-left}
+use Rattle.std.proofs.shelf.Tests.{cases-eq, eqb-true, eq-eqb, cond-false, cases-lt, and-parts, and-from, or-cases, or-left, or-right, ltb-true, lt-ltb, le-ltb, and-left}
 use Rattle.std.proofs.shelf.Lists.{length-append}
 use Rattle.std.proofs.shelf.Elements.{all-push}
 use Rattle.labels.specs.System.{System, Laws, LeadsAt}
 use Rattle.labels.specs.Plain.{all-below, takes-one-more}
-use Rattle.over.specs.Over.{firsts, outer-parts, under, beats-others, first-that, leader, joined, fits, over-order, over-count, over-beats, OverLawful, beside-leader, by-parts, over-choice, over}
-use Rattle.labels.proofs.Tally.{one, tally, one-same, one-is, one-other, Within, part-kept, all-tally, tally-all, tally-at, tally-removed, tally-shuffled, within-length, place-of}
+use Rattle.over.specs.Over.{outer-parts, under, over-order, over-count, over-beats, OverLawful, by-parts, over-choice, over}
+use Rattle.labels.proofs.Tally.{tally, one-is, Within, part-kept, all-tally, tally-all, tally-at, tally-removed, tally-shuffled, within-length, place-of}
 use Rattle.labels.proofs.Leaders.{Leads, leads-from-at, at-from-leads, tally-added}
-use Rattle.labels.proofs.Walks.{room-and-labels, takes-from}
-use Rattle.over.proofs.Parts.{outer-has, outer-from, outer-once, outer-within, tally-under, under-below, under-within, under-has, under-none, parts-length, leader-some, leader-finds, outer-added, under-added, under-added-elsewhere}
+use Rattle.over.proofs.Parts.{outer-has, outer-from, outer-once, outer-within, tally-under, under-below, under-within, under-has, under-none, parts-length, outer-added, under-added, under-added-elsewhere}
 use Rattle.over.specs.Steps.{LedBy, Step, first, grows, outward}
 use Rattle.over.proofs.Sizes.{Fitting, room-fits, inner-pos, outer-label, made-label, over-in-range}
 use Rattle.over.proofs.Leading.{leads-from-led}

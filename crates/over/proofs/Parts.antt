@@ -1,20 +1,19 @@
 -- The outer parts of a list, and the inner parts under one of them, by tallies.
 use mathlib.Core.Path.{_≡_, refl, sym, ap, _∙_, subst}
 use mathlib.Core.List.{List, [], _∷_, _++_, map}
-use mathlib.Core.Bool.{Bool, true, false, cond, not, _&&_, _||_}
-use mathlib.Core.Logic.{_⊎_, inl, inr, ⊎-elim}
-use Prim.Native.Nat.{ℕ, zero, suc, _+_, _-_, _*_, _/_, _%_, _≤_, _<_}
+use mathlib.Core.Bool.{Bool, true, not, _||_}
+use mathlib.Core.Logic.{_⊎_, inl, inr}
+use Prim.Native.Nat.{ℕ, _+_, _*_, _/_, _%_, _≤_, _<_}
 use native.Mathlib.Omega.{arith}
 use native.Mathlib.Nat.{div-add-mod', mod-lt}
-use lib.ListN.{length, getD}
-use lib.Arith.{digits-lt, digits-div, digits-mod}
-use lib.Dec.{eqb, ltb, leb}
-use Rattle.std.specs.shelf.Lists.{All, kept-by}
-use Rattle.std.specs.declared.option.Option.{Option}
-use Rattle.std.specs.declared.option.Option.the-variants.{Some, None}
-use Rattle.std.proofs.shelf.Tests.{cases-eq, cases-bool, eqb-true, eqb-false, eq-eqb, ne-eqb, cond-true, cond-false, cases-lt, both-ways, and-parts, and-from, or-cases, or-left, or-right}
+use lib.ListN.{length}
+use lib.Arith.{digits-div, digits-mod}
+use lib.Dec.{eqb}
+use Rattle.std.specs.shelf.Lists.{kept-by}
+use Rattle.std.specs.declared.option.Option.the-variants.{Some}
+use Rattle.std.proofs.shelf.Tests.{cases-eq, cases-bool, eqb-true, eq-eqb, ne-eqb, cond-true, cond-false, cases-lt, both-ways, or-cases, or-left, or-right}
 use Rattle.over.specs.Over.{firsts, outer-parts, under, beats-others, first-that, leader}
-use Rattle.labels.proofs.Tally.{one, tally, one-same, one-is, one-other, one-le, tally-kept, Within, tally-map, tally-map-from, nil-from-tally, all-tally, tally-all}
+use Rattle.labels.proofs.Tally.{one, tally, one-is, one-other, tally-kept, Within, tally-map, tally-map-from, nil-from-tally, all-tally, tally-all}
 use Rattle.labels.proofs.Leaders.{Leads, tally-added}
 use Rattle.labels.proofs.Walks.{all-from-every, every-from-all}
 

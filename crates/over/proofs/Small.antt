@@ -1,8 +1,8 @@
 -- Where a list takes one more, it is short, and every label that is joined from two parts is small.
-use mathlib.Core.Path.{_≡_, refl, sym, ap, _∙_, subst}
+use mathlib.Core.Path.{_≡_, sym, ap, _∙_, subst}
 use mathlib.Core.List.{List}
-use mathlib.Core.Bool.{Bool, true, false}
-use Prim.Native.Nat.{ℕ, _*_, _+_, _^_, _≤_, _<_}
+use mathlib.Core.Bool.{true, false}
+use Prim.Native.Nat.{ℕ, _^_, _≤_, _<_}
 use native.Mathlib.Omega.{arith}
 use lib.ListN.{length, getD}
 use lib.Dec.{eqb}
@@ -28,14 +28,36 @@ pub chosen-part : (s : System) → Laws s → (l : List ℕ) (p : Option ℕ) �
 chosen-part s laws l None e = tt
 chosen-part s laws l (Some a) e = laws .chosen-label l a (sym e)
 
+-- two systems with their laws
+pub record Two : Type 1 where
+  pub o : System
+  pub i : System
+  pub lo : Laws o
+  pub li : Laws i
+
 -- what the code knows of a list once it has asked whether the list takes one more
-pub record Begun (o i : System) (order count width : ℕ) (l : List ℕ) : Type 0 where
-  pub order-is : order ≡ over-order o i
-  pub count-is : count ≡ over-count o i
-  pub width-is : width ≡ i .count
+pub record Begun (t : Two) (order count width : ℕ) (l : List ℕ) : Type 0 where
+  pub order-is : order ≡ over-order (t .o) (t .i)
+  pub count-is : count ≡ over-count (t .o) (t .i)
+  pub width-is : width ≡ t .i .count
   pub free : true ≡ takes-one-more order count l
 
-module _ (o i : System) (lo : Laws o) (li : Laws i) (order count width : ℕ) (l : List ℕ) (b : Begun o i order count width l) where
+pub begun : (t : Two) (order count width : ℕ) (l : List ℕ) → order ≡ over-order (t .o) (t .i) → count ≡ over-count (t .o) (t .i) → width ≡ t .i .count → true ≡ takes-one-more order count l → Begun t order count width l
+begun t order count width l eo ec ew f = record { order-is = eo; count-is = ec; width-is = ew; free = f }
+
+module _ (t : Two) (order count width : ℕ) (l : List ℕ) (b : Begun t order count width l) where
+  abbrev o : System
+  o = t .o
+
+  abbrev i : System
+  i = t .i
+
+  lo : Laws o
+  lo = t .lo
+
+  li : Laws i
+  li = t .li
+
   room : length l < over-order o i
   room = omega (arith, room-and-labels order count l (sym (b .free)) .0, b .order-is)
 

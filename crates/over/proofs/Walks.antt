@@ -1,9 +1,9 @@
 -- What one label more does to the distinct outer parts and to the inner parts under one of them.
 use mathlib.Core.Path.{_≡_, refl, sym, ap, _∙_}
 use mathlib.Core.List.{List, [], _∷_, _++_, map}
-use mathlib.Core.Bool.{Bool, true, false, cond, not}
-use mathlib.Core.Logic.{_⊎_, inl, inr}
-use Prim.Native.Nat.{ℕ, _+_, _/_, _%_, _≤_, _<_}
+use mathlib.Core.Bool.{not}
+use mathlib.Core.Logic.{inl, inr}
+use Prim.Native.Nat.{ℕ, _+_, _/_, _%_, _<_}
 use native.Mathlib.Omega.{arith}
 use lib.ListN.{length, getD, take}
 use lib.Dec.{eqb}
@@ -11,7 +11,7 @@ use Rattle.std.specs.shelf.Lists.{kept-by}
 use Rattle.std.proofs.shelf.Lists.{append-nil, map-append, map-push, take-more}
 use Rattle.std.proofs.shelf.Elements.{kept-by-append}
 use Rattle.std.proofs.shelf.Tests.{eq-eqb, ne-eqb, cond-true, cond-false, cases-lt}
-use Rattle.labels.proofs.Tally.{tally, one-is, one-pos, place-of}
+use Rattle.labels.proofs.Tally.{tally, one-is, one-pos}
 use Rattle.over.specs.Over.{firsts, outer-parts, under}
 use Rattle.over.proofs.Parts.{but, firsts-has, firsts-from}
 
