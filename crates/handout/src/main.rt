@@ -10,6 +10,10 @@ use plain::HeptadSystem;
 use rolling::beats_all;
 use rolling::held_beside;
 use rolling::roll;
+use search::WaitingRow;
+use search::WaitingRowEntry;
+use search::head;
+use search::tail;
 use std::error::AnyError;
 
 const ROUNDS: usize = 16;
@@ -59,6 +63,30 @@ fn show<S: LabelSystem>(
     }
     if given.len() < rounds {
         println!(rt, "no label is left after round {}", given.len())?;
+    }
+    show_ends(rt, system, held_beside(system, given.as_slice()))
+}
+
+/// Prints which of the labels held is the newest, and which the oldest.
+fn show_ends<S: LabelSystem>(rt: &LibcRuntime, system: &S, held: &[u32]) -> Result<(), AnyError> {
+    let mut rows = Vec::new(rt.alloc());
+    for label in held {
+        rows.push(WaitingRow {
+            seat: 1,
+            label: Some(*label),
+        })?;
+    }
+    let (Some(newest), Some(oldest)) = (
+        head(system, rows.as_slice()),
+        tail(system, rows.as_slice()),
+    ) else {
+        return Ok(());
+    };
+    if let (Some(newest), Some(oldest)) = (held.get(newest), held.get(oldest)) {
+        println!(
+            rt,
+            "of {held:?} the newest is {newest} and the oldest is {oldest}"
+        )?;
     }
     Ok(())
 }

@@ -1,0 +1,4 @@
+//! Tests of the searches for head and tail.
+
+#[cfg(test)]
+mod tests;
