@@ -20,6 +20,9 @@ use Rattle.labels.proofs.Walks.{no-label-at}
 pub none-is-no-label : (x : ℕ) → None ≡ Some x → ⊥
 none-is-no-label x e = let z : _≡_ {A = ℕ} 0 1 = cc in omega arith
 
+pub some-is : (a b : ℕ) → Some a ≡ Some b → a ≡ b
+some-is a b e = cc
+
 module _ (s : System) (l : List ℕ) where
   pub one-least : (x y : ℕ) → LeastChosen s l x → LeastChosen s l y → x ≡ y
   one-least x y hx hy =

@@ -14,7 +14,7 @@ use Rattle.std.proofs.shelf.Lists.{getD-map}
 use Rattle.std.proofs.shelf.Tests.{cases-eq, cases-lt, both-ways, cond-both, or-cases, or-parts, eqb-true, eqb-false}
 use Rattle.std.proofs.shelf.Lists.{getD-past}
 use Rattle.labels.specs.System.{System, Laws}
-use Rattle.labels.proofs.Exact.{none-is-no-label}
+use Rattle.labels.proofs.Exact.{none-is-no-label, some-is}
 use Rattle.search.specs.Search.{LeadsFrom}
 use Rattle.search.specs.Sides.{leads-by, next-best, led-by, OnlyCandidate, Narrows}
 use Rattle.search.specs.declared.search.Candidate.{Candidate}
@@ -53,9 +53,6 @@ module _ (leads : ℕ → ℕ → Bool) (ls : List (Option ℕ)) where
           | inr d ↦ h .2 p (omega arith) t
         ],
   )
-
-  some-is : (a b : ℕ) → Some a ≡ Some b → a ≡ b
-  some-is a b e = cc
 
   -- a label that leads the candidate takes its place: the old candidate cannot lead
   taken : ((a b : ℕ) → leads a b ≡ true → leads b a ≡ true → ⊥) → (i a : ℕ) (c : Candidate) → getD ls i None ≡ Some a → leads a (c .label) ≡ true → SoFar i (Some c) → SoFar (i + 1) (Some (record { place = i; label = a }))

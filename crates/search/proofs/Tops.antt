@@ -1,23 +1,26 @@
 -- What the definition of the leading place amounts to, and that what a relation finds is what the definition gives.
 use mathlib.Core.Path.{_≡_, refl, sym, ap, _∙_, subst}
 use mathlib.Core.List.{List, [], _∷_}
-use mathlib.Core.Bool.{Bool, true, _||_}
+use mathlib.Core.Bool.{Bool, true, cond, _||_}
 use mathlib.Core.Logic.{inl, inr}
-use Prim.Native.Nat.{ℕ, zero, suc, _+_, _<_}
+use Prim.Native.Nat.{ℕ, zero, suc, _+_, _-_, _≤_, _<_}
 use native.Mathlib.Omega.{arith}
 use lib.ListN.{length, getD}
-use lib.Dec.{eqb}
+use lib.Dec.{eqb, ltb}
 use Rattle.std.specs.Options.{Cases}
+use Rattle.std.specs.shelf.Lists.{removed}
 use Rattle.std.specs.declared.option.Option.{Option}
 use Rattle.std.specs.declared.option.Option.the-variants.{Some, None}
-use Rattle.std.proofs.shelf.Tests.{cases-bool, cases-eq, cond-true, cond-false, and-parts, and-from, or-cases, or-left, or-right, eqb-true, eq-eqb}
-use Rattle.labels.specs.System.{System, Laws}
-use Rattle.labels.proofs.Exact.{none-is-no-label, some-or-none}
+use Rattle.std.proofs.shelf.Tests.{cases-bool, cases-eq, cases-lt, lt-ltb, le-ltb, cond-true, cond-false, and-parts, and-from, or-cases, or-left, or-right, eqb-true, eq-eqb}
+use Rattle.std.proofs.shelf.Edits.{getD-removed-below, getD-removed-above, length-removed}
+use Rattle.labels.specs.System.{System, Laws, LeadsAt}
+use Rattle.labels.proofs.Exact.{none-is-no-label, some-is, some-or-none}
 use Rattle.search.proofs.Passes.{labelled-inside}
-use Rattle.search.specs.Search.{leads-rest, first-leading, leading-place, LeadsFrom, Finds, labels-in, HeadOfLawful, head-of}
+use Rattle.search.specs.Search.{leads-rest, first-leading, leading-place, LeadsFrom, Finds, labels-in, FoundWhereLawful, head-of, tail-of}
 
-some-is : (a b : ℕ) → Some a ≡ Some b → a ≡ b
-some-is a b e = cc
+-- a place one further on
+one-on : (k q : ℕ) → k + 1 + q ≡ k + suc q
+one-on k q = omega arith
 
 -- the test of the rest, by places
 rest-gives : (leads : ℕ → ℕ → Bool) (a p k : ℕ) (ls : List (Option ℕ)) → leads-rest leads a p k ls ≡ true → (q b : ℕ) → (k + q ≡ p → ⊥) → getD ls q None ≡ Some b → leads a b ≡ true
@@ -45,10 +48,7 @@ module _ (leads : ℕ → ℕ → Bool) (all : List (Option ℕ)) where
   -- the first place that leads stands where the definition says
   first-found : (k : ℕ) (ls : List (Option ℕ)) (p : ℕ) → ((q : ℕ) → getD all (k + q) None ≡ getD ls q None) → first-leading leads all k ls ≡ Some p → LeadsFrom leads all p
   first-found k [] p same e = absurd (none-is-no-label p e)
-  first-found k (None ∷ ls) p same e = first-found (k + 1) ls p (λ q. ap (λ n. getD all n None) (next q) ∙ same (suc q)) e
-    where
-      next : (q : ℕ) → k + 1 + q ≡ k + suc q
-      next q = omega arith
+  first-found k (None ∷ ls) p same e = first-found (k + 1) ls p (λ q. ap (λ n. getD all n None) (one-on k q) ∙ same (suc q)) e
   first-found k (Some a ∷ ls) p same e =
       elim (cases-bool (leads-rest leads a k 0 all)) [
         | inl t ↦
@@ -58,23 +58,17 @@ module _ (leads : ℕ → ℕ → Bool) (all : List (Option ℕ)) where
               here = ap (λ n. getD all n None) start ∙ same 0;
               others = λ q b d h. rest-gives leads a k 0 all t q b (λ z. d (omega (arith, z))) h;
             })
-        | inr f ↦ first-found (k + 1) ls p (λ q. ap (λ n. getD all n None) (next q) ∙ same (suc q)) (sym (cond-false (leads-rest leads a k 0 all) (Some k) (first-leading leads all (k + 1) ls) f) ∙ e)
+        | inr f ↦ first-found (k + 1) ls p (λ q. ap (λ n. getD all n None) (one-on k q) ∙ same (suc q)) (sym (cond-false (leads-rest leads a k 0 all) (Some k) (first-leading leads all (k + 1) ls) f) ∙ e)
       ]
     where
       start : k ≡ k + 0
       start = omega arith
 
-      next : (q : ℕ) → k + 1 + q ≡ k + suc q
-      next q = omega arith
-
   -- a place that leads is not passed over
   first-finds : (k : ℕ) (ls : List (Option ℕ)) (q a : ℕ) → getD ls q None ≡ Some a → leads-rest leads a (k + q) 0 all ≡ true → first-leading leads all k ls ≡ None → ⊥
   first-finds k [] q a here t e = none-is-no-label a here
   first-finds k (None ∷ ls) zero a here t e = none-is-no-label a here
-  first-finds k (None ∷ ls) (suc q) a here t e = first-finds (k + 1) ls q a here (ap (λ n. leads-rest leads a n 0 all) next ∙ t) e
-    where
-      next : k + 1 + q ≡ k + suc q
-      next = omega arith
+  first-finds k (None ∷ ls) (suc q) a here t e = first-finds (k + 1) ls q a here (ap (λ n. leads-rest leads a n 0 all) (one-on k q) ∙ t) e
   first-finds k (Some c ∷ ls) zero a here t e =
       let s = some-is c a here in
       let u : leads-rest leads c k 0 all ≡ true = ap (λ z. leads-rest leads z k 0 all) s ∙ ap (λ n. leads-rest leads a n 0 all) start ∙ t in
@@ -85,11 +79,8 @@ module _ (leads : ℕ → ℕ → Bool) (all : List (Option ℕ)) where
   first-finds k (Some c ∷ ls) (suc q) a here t e =
       elim (cases-bool (leads-rest leads c k 0 all)) [
         | inl u ↦ none-is-no-label k (sym e ∙ cond-true (leads-rest leads c k 0 all) (Some k) (first-leading leads all (k + 1) ls) u)
-        | inr f ↦ first-finds (k + 1) ls q a here (ap (λ n. leads-rest leads a n 0 all) next ∙ t) (sym (cond-false (leads-rest leads c k 0 all) (Some k) (first-leading leads all (k + 1) ls) f) ∙ e)
+        | inr f ↦ first-finds (k + 1) ls q a here (ap (λ n. leads-rest leads a n 0 all) (one-on k q) ∙ t) (sym (cond-false (leads-rest leads c k 0 all) (Some k) (first-leading leads all (k + 1) ls) f) ∙ e)
       ]
-    where
-      next : k + 1 + q ≡ k + suc q
-      next = omega arith
 
 module _ (leads : ℕ → ℕ → Bool) (one-way : (a b : ℕ) → leads a b ≡ true → leads b a ≡ true → ⊥) (ls : List (Option ℕ)) where
   pub only-one : (p q : ℕ) → LeadsFrom leads ls p → LeadsFrom leads ls q → p ≡ q
@@ -154,14 +145,68 @@ place-of-label (Some a ∷ ls) (suc k) h =
     others p r zero b d e = (0, omega arith, (λ s. omega (arith, s)), some-is a b e)
     others p r (suc q) b d e = let j = r q b (λ s. d (ap suc s)) e in (suc (j .0), omega (arith, j .1), (λ s. j .2 (omega (arith, s))), j .3)
 
-pub head-of-lawful : (s : System) → Laws s → (ls : List (Option ℕ)) (r : Option ℕ) → r ≡ head-of s ls → HeadOfLawful s ls r
-head-of-lawful s laws ls r is lawful some none =
-    let k = laws .lawful-led (labels-in ls) lawful some in
-    let p = place-of-label ls (k .0) (k .1 .within) in
-    none-leads (s .beats) (laws .one-way) ls (sym is ∙ none) (p .0) (record {
-      label = getD (labels-in ls) (k .0) 0;
+-- a place among the labels that leads all others there leads in the buffer, so that the search finds a place
+found-from-labels : (leads : ℕ → ℕ → Bool) → ((a b : ℕ) → leads a b ≡ true → leads b a ≡ true → ⊥) → (ls : List (Option ℕ)) (k : ℕ) → LeadsAt leads (labels-in ls) k → leading-place leads ls ≡ None → ⊥
+found-from-labels leads one-way ls k h none =
+    let p = place-of-label ls k (h .within) in
+    none-leads leads one-way ls none (p .0) (record {
+      label = getD (labels-in ls) k 0;
       here = p .1;
       others = λ q b d e.
           let j = p .2 q b d e in
-          subst (λ z. s .beats (getD (labels-in ls) (k .0) 0) z ≡ true) (j .3) (k .1 .beats-others (j .0) (j .1) (j .2));
+          subst (λ z. leads (getD (labels-in ls) k 0) z ≡ true) (j .3) (h .beats-others (j .0) (j .1) (j .2));
     })
+
+pub head-where-lawful : (s : System) → Laws s → (ls : List (Option ℕ)) (r : Option ℕ) → r ≡ head-of s ls → FoundWhereLawful s ls r
+head-where-lawful s laws ls r is lawful some none =
+    let k = laws .lawful-led (labels-in ls) lawful some in
+    found-from-labels (s .beats) (laws .one-way) ls (k .0) (k .1) (sym is ∙ none)
+
+-- the lowest label of a lawful list: without the leader, the lowest of what is left
+lowest : (s : System) → Laws s → (n : ℕ) (l : List ℕ) → length l ≡ suc n → s .lawful l → (k : ℕ) × LeadsAt (λ a b. s .beats b a) l k
+lowest s laws zero l len lawful = (0, record { within = omega arith; beats-others = λ j lt d. absurd (d (omega arith)) })
+lowest s laws (suc n) l len lawful =
+    let led = laws .lawful-led l lawful (omega arith) in
+    let p : ℕ = led .0 in
+    let h = led .1 in
+    let size = length-removed l p (h .within) in
+    let low = lowest s laws n (removed l p) (omega arith) (laws .removed-lawful l p (h .within) lawful) in
+    let k = back l p (h .within) (low .0) (low .1 .within) in (
+      k .0,
+      record {
+        within = k .1;
+        beats-others = λ j lt d.
+            elim (cases-eq j p) [
+              | inl e ↦ subst (λ z. s .beats (getD l z 0) (getD l (k .0) 0) ≡ true) (sym e) (h .beats-others (k .0) (k .1) (k .2))
+              | inr other ↦
+                  let f = forth l p (h .within) j lt other in
+                  subst (λ z. s .beats z (getD l (k .0) 0) ≡ true) (f .2) (subst (λ z. s .beats (getD (removed l p) (f .0) 0) z ≡ true) (k .3) (low .1 .beats-others (f .0) (f .1) (λ e. d (f .3 ∙ ap (λ z. cond (ltb z p) z (z + 1)) e ∙ sym (k .4)))))
+            ];
+      },
+    )
+  where
+    -- the places of what is left are the places of the whole but p, those past p one further on
+    back : (l : List ℕ) (p : ℕ) → p < length l → (i : ℕ) → i < length (removed l p) → (k : ℕ) × (k < length l) × (k ≡ p → ⊥) × (getD (removed l p) i 0 ≡ getD l k 0) × (k ≡ cond (ltb i p) i (i + 1))
+    back l p within i lt =
+        let size = length-removed l p within in
+        elim (cases-lt i p) [
+          | inl below ↦ (i, omega arith, omega arith, getD-removed-below l p 0 i below within, sym (cond-true (ltb i p) i (i + 1) (lt-ltb i p below)))
+          | inr above ↦ (i + 1, omega arith, omega arith, getD-removed-above l p 0 i above within, sym (cond-false (ltb i p) i (i + 1) (le-ltb i p above)))
+        ]
+
+    forth : (l : List ℕ) (p : ℕ) → p < length l → (j : ℕ) → j < length l → (j ≡ p → ⊥) → (i : ℕ) × (i < length (removed l p)) × (getD (removed l p) i 0 ≡ getD l j 0) × (j ≡ cond (ltb i p) i (i + 1))
+    forth l p within j lt d =
+        let size = length-removed l p within in
+        elim (cases-lt j p) [
+          | inl below ↦ (j, omega arith, getD-removed-below l p 0 j below within, sym (cond-true (ltb j p) j (j + 1) (lt-ltb j p below)))
+          | inr above ↦
+              let e : j - 1 + 1 ≡ j = omega (arith, d) in
+              let past : p ≤ j - 1 = omega (arith, d) in
+              (j - 1, omega (arith, d), getD-removed-above l p 0 (j - 1) past within ∙ ap (λ n. getD l n 0) e, sym (cond-false (ltb (j - 1) p) (j - 1) (j - 1 + 1) (le-ltb (j - 1) p past) ∙ e))
+        ]
+
+pub tail-where-lawful : (s : System) → Laws s → (ls : List (Option ℕ)) (r : Option ℕ) → r ≡ tail-of s ls → FoundWhereLawful s ls r
+tail-where-lawful s laws ls r is lawful some none =
+    let e : length (labels-in ls) ≡ suc (length (labels-in ls) - 1) = omega arith in
+    let k = lowest s laws (length (labels-in ls) - 1) (labels-in ls) e lawful in
+    found-from-labels (λ a b. s .beats b a) (λ a b. laws .one-way b a) ls (k .0) (k .1) (sym is ∙ none)

@@ -52,6 +52,6 @@ labels-in [] = []
 labels-in (None ∷ ls) = labels-in ls
 labels-in (Some a ∷ ls) = a ∷ labels-in ls
 
--- over a lawful list of labels that is not empty, the head is found
-abbrev pub HeadOfLawful : System → List (Option ℕ) → Option ℕ → Type 0
-HeadOfLawful s ls r = s .lawful (labels-in ls) → 0 < length (labels-in ls) → r ≡ None → ⊥
+-- over a lawful list of labels that is not empty, the search finds a place
+abbrev pub FoundWhereLawful : System → List (Option ℕ) → Option ℕ → Type 0
+FoundWhereLawful s ls r = s .lawful (labels-in ls) → 0 < length (labels-in ls) → r ≡ None → ⊥

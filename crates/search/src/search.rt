@@ -2,7 +2,7 @@ ghost use mathlib.Core.Path.{_≡_};
 ghost use mathlib.Core.List.{map};
 ghost use Prim.Native.Nat.{ℕ};
 ghost use Rattle.std.specs.Orderings.{When};
-ghost use Rattle.search.specs.Search.{head-of, tail-of, LeadsFrom, Finds, HeadOfLawful};
+ghost use Rattle.search.specs.Search.{head-of, tail-of, LeadsFrom, Finds, FoundWhereLawful};
 ghost use Rattle.search.specs.Sides.{leads-by, next-best, led-by, OnlyCandidate, Narrows, IsLeading};
 use super::entry::Entry;
 use labels::LabelSystem;
@@ -25,7 +25,7 @@ struct Candidate {
 pub fn head<S: LabelSystem, E: Entry>(system: &S, entries: &[E]) -> Option<usize>
     ensures value { λ r. ⌜ r ≡ head-of (S·LabelSystem .meaning (now (system .entry))) (map labelled (now (entries .entry))) ⌝ }
     ensures finds { λ r. ⌜ Finds (S·LabelSystem .meaning (now (system .entry)) .beats) (map labelled (now (entries .entry))) r ⌝ }
-    ensures lawful { λ r. ⌜ HeadOfLawful (S·LabelSystem .meaning (now (system .entry))) (map labelled (now (entries .entry))) r ⌝ }
+    ensures lawful { λ r. ⌜ FoundWhereLawful (S·LabelSystem .meaning (now (system .entry))) (map labelled (now (entries .entry))) r ⌝ }
 {
     leading(system, Side::Head, entries)
 }
@@ -34,6 +34,7 @@ pub fn head<S: LabelSystem, E: Entry>(system: &S, entries: &[E]) -> Option<usize
 pub fn tail<S: LabelSystem, E: Entry>(system: &S, entries: &[E]) -> Option<usize>
     ensures value { λ r. ⌜ r ≡ tail-of (S·LabelSystem .meaning (now (system .entry))) (map labelled (now (entries .entry))) ⌝ }
     ensures finds { λ r. ⌜ Finds (λ a b. S·LabelSystem .meaning (now (system .entry)) .beats b a) (map labelled (now (entries .entry))) r ⌝ }
+    ensures lawful { λ r. ⌜ FoundWhereLawful (S·LabelSystem .meaning (now (system .entry))) (map labelled (now (entries .entry))) r ⌝ }
 {
     leading(system, Side::Tail, entries)
 }
