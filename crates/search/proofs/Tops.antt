@@ -162,48 +162,57 @@ head-where-lawful s laws ls r is lawful some none =
     let k = laws .lawful-led (labels-in ls) lawful some in
     found-from-labels (s .beats) (laws .one-way) ls (k .0) (k .1) (sym is ∙ none)
 
--- the lowest label of a lawful list: without the leader, the lowest of what is left
+-- the place in l of place i of what is left of l without place p
+abbrev past-gap : ℕ → ℕ → ℕ
+past-gap p i = cond (ltb i p) i (i + 1)
+
+module _ (l : List ℕ) (p : ℕ) (within : p < length l) where
+  whole-place : (i : ℕ) → i < length (removed l p) → (past-gap p i < length l) × (past-gap p i ≡ p → ⊥) × (getD (removed l p) i 0 ≡ getD l (past-gap p i) 0)
+  whole-place i lt =
+      let size = length-removed l p within in
+      elim (cases-lt i p)
+      [ inl below ↦
+          let e : past-gap p i ≡ i = cond-true (ltb i p) i (i + 1) (lt-ltb i p below) in
+          (omega arith, omega arith, getD-removed-below l p 0 i below within ∙ ap (λ n. getD l n 0) (sym e))
+      | inr above ↦
+          let e : past-gap p i ≡ i + 1 = cond-false (ltb i p) i (i + 1) (le-ltb i p above) in
+          (omega arith, omega arith, getD-removed-above l p 0 i above within ∙ ap (λ n. getD l n 0) (sym e))
+      ]
+
+  left-place : (j : ℕ) → j < length l → (j ≡ p → ⊥) → (i : ℕ) × (i < length (removed l p)) × (past-gap p i ≡ j)
+  left-place j lt d =
+      let size = length-removed l p within in
+      elim (cases-lt j p)
+      [ inl below ↦ (j, omega arith, cond-true (ltb j p) j (j + 1) (lt-ltb j p below))
+      | inr above ↦
+          let past : p ≤ j - 1 = omega (arith, d) in
+          (j - 1, omega (arith, d), cond-false (ltb (j - 1) p) (j - 1) (j - 1 + 1) (le-ltb (j - 1) p past) ∙ omega (arith, d))
+      ]
+
+  -- the lowest of what is left is the lowest, since the leader beats it too
+  lowest-of-left : (beats : ℕ → ℕ → Bool) → LeadsAt beats l p → (i : ℕ) → LeadsAt (λ a b. beats b a) (removed l p) i → LeadsAt (λ a b. beats b a) l (past-gap p i)
+  lowest-of-left beats leader i low =
+      let k = whole-place i (low .within) in
+      record { within = k .0; beats-others = λ j lt d. elim (cases-eq j p) [ inl e ↦ by-leader j e (k .0) (k .1) | inr other ↦ by-left j (left-place j lt other) d ] }
+    where
+      by-leader : (j : ℕ) → j ≡ p → past-gap p i < length l → (past-gap p i ≡ p → ⊥) → beats (getD l j 0) (getD l (past-gap p i) 0) ≡ true
+      by-leader j e lt d = ap (λ z. beats (getD l z 0) (getD l (past-gap p i) 0)) e ∙ leader .beats-others (past-gap p i) lt d
+
+      by-left : (j : ℕ) → (m : ℕ) × (m < length (removed l p)) × (past-gap p m ≡ j) → (j ≡ past-gap p i → ⊥) → beats (getD l j 0) (getD l (past-gap p i) 0) ≡ true
+      by-left j m d =
+          ap (λ z. beats (getD l z 0) (getD l (past-gap p i) 0)) (sym (m .2))
+          ∙ ap (λ z. beats z (getD l (past-gap p i) 0)) (sym (whole-place (m .0) (m .1) .2))
+          ∙ ap (beats (getD (removed l p) (m .0) 0)) (sym (whole-place i (low .within) .2))
+          ∙ low .beats-others (m .0) (m .1) (λ e. d (sym (m .2) ∙ ap (past-gap p) e))
+
 lowest : (s : System) → Laws s → (n : ℕ) (l : List ℕ) → length l ≡ suc n → s .lawful l → (k : ℕ) × LeadsAt (λ a b. s .beats b a) l k
 lowest s laws zero l len lawful = (0, record { within = omega arith; beats-others = λ j lt d. absurd (d (omega arith)) })
 lowest s laws (suc n) l len lawful =
     let led = laws .lawful-led l lawful (omega arith) in
-    let p : ℕ = led .0 in
-    let h = led .1 in
-    let size = length-removed l p (h .within) in
-    let low = lowest s laws n (removed l p) (omega arith) (laws .removed-lawful l p (h .within) lawful) in
-    let k = back l p (h .within) (low .0) (low .1 .within) in (
-      k .0,
-      record {
-        within = k .1;
-        beats-others = λ j lt d.
-            elim (cases-eq j p) [
-              | inl e ↦ subst (λ z. s .beats (getD l z 0) (getD l (k .0) 0) ≡ true) (sym e) (h .beats-others (k .0) (k .1) (k .2))
-              | inr other ↦
-                  let f = forth l p (h .within) j lt other in
-                  subst (λ z. s .beats z (getD l (k .0) 0) ≡ true) (f .2) (subst (λ z. s .beats (getD (removed l p) (f .0) 0) z ≡ true) (k .3) (low .1 .beats-others (f .0) (f .1) (λ e. d (f .3 ∙ ap (λ z. cond (ltb z p) z (z + 1)) e ∙ sym (k .4)))))
-            ];
-      },
-    )
-  where
-    -- the places of what is left are the places of the whole but p, those past p one further on
-    back : (l : List ℕ) (p : ℕ) → p < length l → (i : ℕ) → i < length (removed l p) → (k : ℕ) × (k < length l) × (k ≡ p → ⊥) × (getD (removed l p) i 0 ≡ getD l k 0) × (k ≡ cond (ltb i p) i (i + 1))
-    back l p within i lt =
-        let size = length-removed l p within in
-        elim (cases-lt i p) [
-          | inl below ↦ (i, omega arith, omega arith, getD-removed-below l p 0 i below within, sym (cond-true (ltb i p) i (i + 1) (lt-ltb i p below)))
-          | inr above ↦ (i + 1, omega arith, omega arith, getD-removed-above l p 0 i above within, sym (cond-false (ltb i p) i (i + 1) (le-ltb i p above)))
-        ]
-
-    forth : (l : List ℕ) (p : ℕ) → p < length l → (j : ℕ) → j < length l → (j ≡ p → ⊥) → (i : ℕ) × (i < length (removed l p)) × (getD (removed l p) i 0 ≡ getD l j 0) × (j ≡ cond (ltb i p) i (i + 1))
-    forth l p within j lt d =
-        let size = length-removed l p within in
-        elim (cases-lt j p) [
-          | inl below ↦ (j, omega arith, getD-removed-below l p 0 j below within, sym (cond-true (ltb j p) j (j + 1) (lt-ltb j p below)))
-          | inr above ↦
-              let e : j - 1 + 1 ≡ j = omega (arith, d) in
-              let past : p ≤ j - 1 = omega (arith, d) in
-              (j - 1, omega (arith, d), getD-removed-above l p 0 (j - 1) past within ∙ ap (λ n. getD l n 0) e, sym (cond-false (ltb (j - 1) p) (j - 1) (j - 1 + 1) (le-ltb (j - 1) p past) ∙ e))
-        ]
+    let within = led .1 .within in
+    let size = length-removed l (led .0) within in
+    let low = lowest s laws n (removed l (led .0)) (omega arith) (laws .removed-lawful l (led .0) within lawful) in
+    (past-gap (led .0) (low .0), lowest-of-left l (led .0) within (s .beats) (led .1) (low .0) (low .1))
 
 pub tail-where-lawful : (s : System) → Laws s → (ls : List (Option ℕ)) (r : Option ℕ) → r ≡ tail-of s ls → FoundWhereLawful s ls r
 tail-where-lawful s laws ls r is lawful some none =
