@@ -10,6 +10,7 @@ use Rattle.std.proofs.shelf.Lists.{length-push}
 use Rattle.std.proofs.shelf.Tests.{cases-lt, both-ways}
 use Rattle.labels.specs.Plain.{Distinct}
 use Rattle.labels.proofs.Tally.{tally, tally-at, place-of}
+use Rattle.labels.proofs.Shorts.{pushed-whole}
 use Rattle.labels.proofs.Chains.{distinct-from-once}
 use Rattle.over.specs.Over.{outer-parts}
 use Rattle.over.proofs.Parts.{outer-once}
@@ -17,8 +18,10 @@ use Rattle.over.proofs.Walks.{outer-more, outer-same}
 
 -- what was collected grows as the definition does, and is never longer than what was walked
 module _ (i : ℕ) (old new before after : List ℕ) (so-far : old ≡ before) (short : length old ≤ i) where
-  pub collected : (y : ℕ) → new ≡ old ++ y ∷ [] → after ≡ before ++ y ∷ [] → (new ≡ after) × (length new ≤ i + 1)
-  collected y n a = (n ∙ ap (λ l. l ++ y ∷ []) so-far ∙ sym a, omega (arith, ap length n, length-push old y))
+  pub collected : i < 20 → (y : ℕ) → new ≡ take 20 (old ++ y ∷ []) → after ≡ before ++ y ∷ [] → (new ≡ after) × (length new ≤ i + 1)
+  collected lt y n a =
+      let whole = n ∙ pushed-whole old y (omega arith) in
+      (whole ∙ ap (λ l. l ++ y ∷ []) so-far ∙ sym a, omega (arith, ap length whole, length-push old y))
 
   pub passed : new ≡ old → after ≡ before → (new ≡ after) × (length new ≤ i + 1)
   passed n a = (n ∙ so-far ∙ sym a, omega (arith, ap length n))
@@ -39,10 +42,10 @@ module _ (n : ℕ) (xs : List ℕ) (i : ℕ) (within : i < length xs) (slice old
   abbrev part : ℕ
   part = getD xs i 0 / n
 
-  pub new-part : (false ≡ true) ↔ ((k : ℕ) × (k < length slice) × (getD slice k 0 ≡ part)) → new ≡ old ++ part ∷ [] → (new ≡ outer-parts n (take (i + 1) xs)) × (length new ≤ i + 1)
+  pub new-part : (false ≡ true) ↔ ((k : ℕ) × (k < length slice) × (getD slice k 0 ≡ part)) → i < 20 → new ≡ take 20 (old ++ part ∷ []) → (new ≡ outer-parts n (take (i + 1) xs)) × (length new ≤ i + 1)
   unfolding Held
-  new-part h grown =
-      collected i old new (outer-parts n (take i xs)) (outer-parts n (take (i + 1) xs)) so-far short part grown
+  new-part h lt grown =
+      collected i old new (outer-parts n (take i xs)) (outer-parts n (take (i + 1) xs)) so-far short lt part grown
       (outer-more n xs i within (subst (λ l. tally part l ≡ 0) (is ∙ so-far) (not-held-tally slice part (λ k. both-ways false refl (h .1 k)))))
 
   pub old-part : (true ≡ true) ↔ ((k : ℕ) × (k < length slice) × (getD slice k 0 ≡ part)) → new ≡ old → (new ≡ outer-parts n (take (i + 1) xs)) × (length new ≤ i + 1)

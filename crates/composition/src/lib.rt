@@ -1,7 +1,6 @@
 //! One label system over another.
 
 mod over;
-mod scratch;
 mod steps;
 
 pub use over::Over;

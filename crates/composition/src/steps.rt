@@ -10,17 +10,17 @@ ghost use Rattle.std.specs.Options.{Cases};
 ghost use Rattle.labels.specs.System.{LeadsAt};
 ghost use Rattle.labels.specs.Plain.{Distinct};
 ghost use Rattle.over.specs.Over.{outer-parts, under, leader, joined};
-ghost use Rattle.composition.specs.Scratch.{listed};
-use super::scratch::Scratch;
+ghost use Rattle.labels.specs.ShortList.{listed};
 use labels::LabelSystem;
+use labels::ShortList;
 
 /// The distinct outer parts of `labels`, in order of first appearance.
-pub(crate) fn outer_parts(labels: &[u32], width: u32) -> Scratch
+pub(crate) fn outer_parts(labels: &[u32], width: u32) -> ShortList
     requires { ⌜ length (now labels) ≤ 20 ⌝ ∗ ⌜ 0 < width ⌝ }
     ensures parts { λ r. ⌜ listed r ≡ outer-parts width (now (labels .entry)) ⌝ }
     ensures once { λ r. ⌜ Distinct (listed r) ⌝ }
 {
-    let mut parts = Scratch::new();
+    let mut parts = ShortList::new();
     for label in labels {
         let part = *label / width;
         if !holds(parts.as_slice(), part) {
@@ -43,11 +43,11 @@ fn holds(numbers: &[u32], number: u32) -> bool
 }
 
 /// The inner parts of those labels that have the outer part `part`.
-pub(crate) fn inner_parts(labels: &[u32], width: u32, part: u32) -> Scratch
+pub(crate) fn inner_parts(labels: &[u32], width: u32, part: u32) -> ShortList
     requires { ⌜ length (now labels) ≤ 20 ⌝ ∗ ⌜ 0 < width ⌝ }
     ensures { λ r. ⌜ listed r ≡ under width part (now (labels .entry)) ⌝ }
 {
-    let mut group = Scratch::new();
+    let mut group = ShortList::new();
     for label in labels {
         if *label / width == part {
             group.push(*label % width);

@@ -1,6 +1,7 @@
 pub mod Tally
 pub mod Leaders
 pub mod Walks
+pub mod Shorts
 pub mod Exact
 pub mod Chains
 pub mod Triangle

@@ -1,3 +1,4 @@
 pub mod System
 pub mod Plain
 pub mod Least
+pub mod ShortList

@@ -2,6 +2,10 @@ ghost use mathlib.Core.Path.{_≡_};
 ghost use Rattle.labels.specs.System.{System, Laws};
 ghost use Rattle.labels.specs.Plain.{all-below, takes-one-more};
 
+mod short_list;
+
+pub use short_list::ShortList;
+
 /// A label system: what it means, the laws that its meaning shows, and five calls that answer by it.
 /// No call refuses, and none changes the system.
 pub trait LabelSystem {

@@ -170,23 +170,23 @@ module _ (l : List ℕ) (p : ℕ) (within : p < length l) where
   whole-place : (i : ℕ) → i < length (removed l p) → (past-gap p i < length l) × (past-gap p i ≡ p → ⊥) × (getD (removed l p) i 0 ≡ getD l (past-gap p i) 0)
   whole-place i lt =
       let size = length-removed l p within in
-      elim (cases-lt i p)
-      [ inl below ↦
-          let e : past-gap p i ≡ i = cond-true (ltb i p) i (i + 1) (lt-ltb i p below) in
-          (omega arith, omega arith, getD-removed-below l p 0 i below within ∙ ap (λ n. getD l n 0) (sym e))
-      | inr above ↦
-          let e : past-gap p i ≡ i + 1 = cond-false (ltb i p) i (i + 1) (le-ltb i p above) in
-          (omega arith, omega arith, getD-removed-above l p 0 i above within ∙ ap (λ n. getD l n 0) (sym e))
+      elim (cases-lt i p) [
+        | inl below ↦
+            let e : past-gap p i ≡ i = cond-true (ltb i p) i (i + 1) (lt-ltb i p below) in
+            (omega arith, omega arith, getD-removed-below l p 0 i below within ∙ ap (λ n. getD l n 0) (sym e))
+        | inr above ↦
+            let e : past-gap p i ≡ i + 1 = cond-false (ltb i p) i (i + 1) (le-ltb i p above) in
+            (omega arith, omega arith, getD-removed-above l p 0 i above within ∙ ap (λ n. getD l n 0) (sym e))
       ]
 
   left-place : (j : ℕ) → j < length l → (j ≡ p → ⊥) → (i : ℕ) × (i < length (removed l p)) × (past-gap p i ≡ j)
   left-place j lt d =
       let size = length-removed l p within in
-      elim (cases-lt j p)
-      [ inl below ↦ (j, omega arith, cond-true (ltb j p) j (j + 1) (lt-ltb j p below))
-      | inr above ↦
-          let past : p ≤ j - 1 = omega (arith, d) in
-          (j - 1, omega (arith, d), cond-false (ltb (j - 1) p) (j - 1) (j - 1 + 1) (le-ltb (j - 1) p past) ∙ omega (arith, d))
+      elim (cases-lt j p) [
+        | inl below ↦ (j, omega arith, cond-true (ltb j p) j (j + 1) (lt-ltb j p below))
+        | inr above ↦
+            let past : p ≤ j - 1 = omega (arith, d) in
+            (j - 1, omega (arith, d), cond-false (ltb (j - 1) p) (j - 1) (j - 1 + 1) (le-ltb (j - 1) p past) ∙ omega (arith, d))
       ]
 
   -- the lowest of what is left is the lowest, since the leader beats it too

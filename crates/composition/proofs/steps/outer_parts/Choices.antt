@@ -2,7 +2,7 @@ use mathlib.Core.Path.{_≡_}
 use Prim.Native.Nat.{_≤_}
 use lib.ListN.{take, length}
 use Rattle.over.specs.Over.{outer-parts}
-use Rattle.composition.specs.Scratch.{listed}
+use Rattle.labels.specs.ShortList.{listed}
 use Rattle.composition.proofs.steps.outer_parts.Given as given
 
 abbrev pub Inv-loop-label : given.InvT-loop-label

@@ -1,7 +1,7 @@
 -- The scratch lists suffice, no divisor is 0, and joined labels fit, whatever lists the parts are chosen for.
 use Rattle.std.specs.declared.option.Option.the-variants.{Some}
 use Rattle.over.proofs.Small.{Two, Begun, begun, chosen-part, short-and-wide, joined-small, leader-part}
-use Rattle.composition.specs.Scratch.{listed}
+use Rattle.labels.specs.ShortList.{listed}
 use Rattle.composition.proofs.over.Over.by_parts.Given as given
 use Rattle.composition.proofs.over.Over.by_parts.Needs as need
 

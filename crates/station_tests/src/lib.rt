@@ -1,0 +1,4 @@
+//! Tests of the station.
+
+#[cfg(test)]
+mod tests;
