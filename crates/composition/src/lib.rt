@@ -1,5 +1,7 @@
 //! One label system over another.
 
+#![tactic(auto)]
+
 mod over;
 mod steps;
 

@@ -1,3 +1,5 @@
+#![tactic(auto)]
+
 ghost use Rattle.std.specs.Prelude.{◌≡◌};
 ghost use Rattle.labels.specs.System.{System, Laws};
 ghost use Rattle.labels.specs.Plain.{all_below, takes_one_more};

@@ -1,5 +1,7 @@
 //! A made-up label system for tests, whose choice depends on the order of the list.
 
+#![tactic(auto)]
+
 ghost use Rattle.std.specs.Prelude.{◌≡◌, ◌<◌};
 ghost use Rattle.made_up.specs.Skipping.{past, skipping};
 ghost use Rattle.made_up.specs.SkippingLaws.{skipping_laws};

@@ -1,5 +1,7 @@
 //! What one label system over another means, that it shows the laws, and choices worked out by hand.
 
+#![tactic(auto)]
+
 ghost use Rattle.std.specs.Prelude.{◌≡◌};
 ghost use Rattle.over.specs.Worked.{Worked};
 

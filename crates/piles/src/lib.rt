@@ -1,5 +1,7 @@
 //! The four piles: label systems that ship ready.
 
+#![tactic(auto)]
+
 mod pile1;
 mod pile2;
 mod pile3;

@@ -1,5 +1,7 @@
 //! The plain label systems: triangle, heptad and counter.
 
+#![tactic(auto)]
+
 mod counter;
 mod heptad;
 mod refusal;

@@ -7,7 +7,7 @@ use labels::ShortList;
 
 /// The labels that entries tell, in their order; of more than twenty the first twenty.
 pub fn labels_in<E: Entry>(entries: &[E]) -> ShortList
-    ensures { listed result ≡ take 20 (labels_in (map labelled entries.now)) }
+    ensures { listed result ≡ take 20 (labels_in (map E.labelled entries.now)) }
 {
     let mut found = ShortList::new();
     for entry in entries {

@@ -1,5 +1,7 @@
 //! Head and tail: searching a buffer of entries, of which each tells its label or that it has none.
 
+#![tactic(auto)]
+
 mod entry;
 mod gather;
 mod search;

@@ -21,18 +21,18 @@ struct Candidate {
 
 /// The labelled place whose label beats that at every other labelled place.
 pub fn head<S: LabelSystem, E: Entry>(system: &S, entries: &[E]) -> Option<usize>
-    ensures value { result ≡ head_of (S.LabelSystem.meaning system.now) (map labelled entries.now) }
-    ensures finds { Finds (S.LabelSystem.meaning system.now).beats (map labelled entries.now) result }
-    ensures lawful { FoundWhereLawful (S.LabelSystem.meaning system.now) (map labelled entries.now) result }
+    ensures value { result ≡ head_of (S.LabelSystem.meaning system.now) (map E.labelled entries.now) }
+    ensures finds { Finds (S.LabelSystem.meaning system.now).beats (map E.labelled entries.now) result }
+    ensures lawful { FoundWhereLawful (S.LabelSystem.meaning system.now) (map E.labelled entries.now) result }
 {
     leading(system, Side::Head, entries)
 }
 
 /// The labelled place whose label is beaten by that at every other labelled place.
 pub fn tail<S: LabelSystem, E: Entry>(system: &S, entries: &[E]) -> Option<usize>
-    ensures value { result ≡ tail_of (S.LabelSystem.meaning system.now) (map labelled entries.now) }
-    ensures finds { Finds (λ a b. (S.LabelSystem.meaning system.now).beats b a) (map labelled entries.now) result }
-    ensures lawful { FoundWhereLawful (S.LabelSystem.meaning system.now) (map labelled entries.now) result }
+    ensures value { result ≡ tail_of (S.LabelSystem.meaning system.now) (map E.labelled entries.now) }
+    ensures finds { Finds (λ a b. (S.LabelSystem.meaning system.now).beats b a) (map E.labelled entries.now) result }
+    ensures lawful { FoundWhereLawful (S.LabelSystem.meaning system.now) (map E.labelled entries.now) result }
 {
     leading(system, Side::Tail, entries)
 }
@@ -40,7 +40,7 @@ pub fn tail<S: LabelSystem, E: Entry>(system: &S, entries: &[E]) -> Option<usize
 /// Two passes, so that `beats` is called at most twice for each labelled place: a place that leads all others is left by
 /// the first pass as its candidate, and the second checks the candidate.
 fn leading<S: LabelSystem, E: Entry>(system: &S, side: Side, entries: &[E]) -> Option<usize>
-    ensures { IsLeading (leads_by side (S.LabelSystem.meaning system.now)) (map labelled entries.now) result }
+    ensures { IsLeading (leads_by side (S.LabelSystem.meaning system.now)) (map E.labelled entries.now) result }
 {
     let Some(found) = narrow(system, side, entries) else {
         return None;
@@ -54,7 +54,7 @@ fn leading<S: LabelSystem, E: Entry>(system: &S, side: Side, entries: &[E]) -> O
 
 /// The one place that can lead all others.
 fn narrow<S: LabelSystem, E: Entry>(system: &S, side: Side, entries: &[E]) -> Option<Candidate>
-    ensures { Narrows (leads_by side (S.LabelSystem.meaning system.now)) (map labelled entries.now) result }
+    ensures { Narrows (leads_by side (S.LabelSystem.meaning system.now)) (map E.labelled entries.now) result }
 {
     let mut best: Option<Candidate> = None;
     for (place, entry) in entries.iter().enumerate() {
@@ -89,8 +89,8 @@ fn leads_others<S: LabelSystem, E: Entry>(
     entries: &[E],
     found: Candidate,
 ) -> bool
-    requires { OnlyCandidate (leads_by side (S.LabelSystem.meaning system.now)) (map labelled entries.now) found }
-    ensures { MatchBool result (LeadsFrom (leads_by side (S.LabelSystem.meaning system.now)) (map labelled entries.now) found.place) ((p : ℕ) → LeadsFrom (leads_by side (S.LabelSystem.meaning system.now)) (map labelled entries.now) p → ⊥) }
+    requires { OnlyCandidate (leads_by side (S.LabelSystem.meaning system.now)) (map E.labelled entries.now) found }
+    ensures { MatchBool result (LeadsFrom (leads_by side (S.LabelSystem.meaning system.now)) (map E.labelled entries.now) found.place) ((p : ℕ) → LeadsFrom (leads_by side (S.LabelSystem.meaning system.now)) (map E.labelled entries.now) p → ⊥) }
 {
     for (other, entry) in entries.iter().enumerate() {
         if !is_led(system, side, found, other, entry.label()) {

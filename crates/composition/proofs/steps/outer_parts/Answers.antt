@@ -12,8 +12,8 @@ loop-label-preserved c =
     let xs : List ℕ = c.args.labels.now in
     let i : ℕ = c.loop-label.label-index in
     elim c.if-not-holds.branch [
-      | then-not-holds w ↦ new_part c.args.width xs i c.loop-label-test.true c.as-slice.result.now (listed c.loop-label.parts) (listed c.if-not-holds.parts) c.as-slice.ensures c.loop-label.invariant.0 c.loop-label.invariant.1 w.if-not-holds.ensures (omega (arith, c.requires.0, c.loop-label-test.true)) (ap listed w.parts-is ∙ w.push.ensures)
-      | else-not-holds w ↦ old_part c.args.width xs i c.loop-label-test.true c.as-slice.result.now (listed c.loop-label.parts) (listed c.if-not-holds.parts) c.as-slice.ensures c.loop-label.invariant.0 c.loop-label.invariant.1 w.if-not-holds.ensures (ap listed w.parts-is)
+      | then-not-holds w ↦ new_part c.args.width xs i c.loop-label-test.true c.as_slice.result.now (listed c.loop-label.parts) (listed c.if-not-holds.parts) c.as_slice.ensures c.loop-label.invariant.0 c.loop-label.invariant.1 w.if-not-holds.ensures (omega (arith, c.requires.0, c.loop-label-test.true)) (ap listed w.parts-is ∙ w.push.ensures)
+      | else-not-holds w ↦ old_part c.args.width xs i c.loop-label-test.true c.as_slice.result.now (listed c.loop-label.parts) (listed c.if-not-holds.parts) c.as_slice.ensures c.loop-label.invariant.0 c.loop-label.invariant.1 w.if-not-holds.ensures (ap listed w.parts-is)
     ]
 
 pub returns : goal.returns

@@ -5,15 +5,15 @@ use Rattle.search.specs.Sides.{leads_by}
 use Rattle.search.proofs.Passes.{label_at, led_next, all_led, not_led}
 use Rattle.search.proofs.search.leads_others.Goals as goal
 
-pub returns-then-not-is-led : goal.returns-then-not-is-led
-returns-then-not-is-led g c =
+pub returns-then-not-is_led : goal.returns-then-not-is_led
+returns-then-not-is_led g c =
     let f = g.E.Entry.labelled in
-    not_led (leads_by c.args.side (g.S.LabelSystem.meaning c.args.system.now)) (map f c.args.entries.now) c.args.found c.loop-other.other c.label.result c.requires (label_at f c.args.entries.now c.loop-other.other c.index-entries-other.result c.loop-other-test.true c.index-entries-other.is ∙ sym c.label.ensures) (sym c.if-not-is-led.ensures)
+    not_led (leads_by c.args.side (g.S.LabelSystem.meaning c.args.system.now)) (map f c.args.entries.now) c.args.found c.loop-other.other c.label.result c.requires (label_at f c.args.entries.now c.loop-other.other c.index-entries-other.result c.loop-other-test.true c.index-entries-other.is ∙ sym c.label.ensures) (sym c.if-not-is_led.ensures)
 
 pub loop-other-preserved : goal.loop-other-preserved
 loop-other-preserved g c =
     let f = g.E.Entry.labelled in
-    led_next (leads_by c.args.side (g.S.LabelSystem.meaning c.args.system.now)) (map f c.args.entries.now) c.args.found c.loop-other.other c.label.result (label_at f c.args.entries.now c.loop-other.other c.index-entries-other.result c.loop-other-test.true c.index-entries-other.is ∙ sym c.label.ensures) (sym c.if-not-is-led.ensures) c.loop-other.invariant
+    led_next (leads_by c.args.side (g.S.LabelSystem.meaning c.args.system.now)) (map f c.args.entries.now) c.args.found c.loop-other.other c.label.result (label_at f c.args.entries.now c.loop-other.other c.index-entries-other.result c.loop-other-test.true c.index-entries-other.is ∙ sym c.label.ensures) (sym c.if-not-is_led.ensures) c.loop-other.invariant
 
 pub returns : goal.returns
 returns g c =

@@ -9,7 +9,7 @@ pub loop-place-preserved : goal.loop-place-preserved
 loop-place-preserved g c =
     let s = g.S.LabelSystem.meaning c.args.system.now in
     let f = g.E.Entry.labelled in
-    next_turn (leads_by c.args.side s) (map f c.args.entries.now) (one_way_by c.args.side s (g.met.S.LabelSystem.shows c.args.system.now)) c.loop-place.place c.label.result c.loop-place.best c.next-best-best.result (label_at f c.args.entries.now c.loop-place.place c.index-entries-place.result c.loop-place-test.true c.index-entries-place.is ∙ sym c.label.ensures) c.next-best-best.ensures c.loop-place.invariant
+    next_turn (leads_by c.args.side s) (map f c.args.entries.now) (one_way_by c.args.side s (g.met.S.LabelSystem.shows c.args.system.now)) c.loop-place.place c.label.result c.loop-place.best c.next_best-best.result (label_at f c.args.entries.now c.loop-place.place c.index-entries-place.result c.loop-place-test.true c.index-entries-place.is ∙ sym c.label.ensures) c.next_best-best.ensures c.loop-place.invariant
 
 pub returns : goal.returns
 returns g c =

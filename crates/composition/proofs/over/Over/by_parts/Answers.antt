@@ -11,29 +11,29 @@ two g a b = record { o = g.O.LabelSystem.meaning a; i = g.I.LabelSystem.meaning 
 pub joined-requires : goal.joined-requires
 joined-requires g c =
     let t = two g c.args.self.now.outer c.args.self.now.inner in
-    let b : Begun t c.size-size.result.order c.size-size.result.count c.count-width.result c.args.labels.now = begun t _ _ _ _ c.size-size.ensures.order c.size-size.ensures.count c.count-width.ensures c.if-not-takes-one-more.ensures in
-    joined_small t _ _ _ _ b _ _ (chosen_part t.o t.lo _ _ c.choose.ensures) (chosen_part t.i t.li _ _ c.choose-then-is-empty.ensures)
+    let b : Begun t c.size-size.result.order c.size-size.result.count c.count-width.result c.args.labels.now = begun t _ _ _ _ c.size-size.ensures.order c.size-size.ensures.count c.count-width.ensures c.if-not-takes_one_more.ensures in
+    joined_small t _ _ _ _ b _ _ (chosen_part t.o t.lo _ _ c.choose.ensures) (chosen_part t.i t.li _ _ c.choose-then-is_empty.ensures)
 
-pub outer-parts-parts-requires : goal.outer-parts-parts-requires
-outer-parts-parts-requires g c =
+pub outer_parts-parts-requires : goal.outer_parts-parts-requires
+outer_parts-parts-requires g c =
     let t = two g c.args.self.now.outer c.args.self.now.inner in
-    let b : Begun t c.size-size.result.order c.size-size.result.count c.count-width.result c.args.labels.now = begun t _ _ _ _ c.size-size.ensures.order c.size-size.ensures.count c.count-width.ensures c.if-not-takes-one-more.ensures in
-    short_and_wide t _ _ _ _ b c.if-is-empty.ensures
+    let b : Begun t c.size-size.result.order c.size-size.result.count c.count-width.result c.args.labels.now = begun t _ _ _ _ c.size-size.ensures.order c.size-size.ensures.count c.count-width.ensures c.if-not-takes_one_more.ensures in
+    short_and_wide t _ _ _ _ b c.if-is_empty.ensures
 
-pub inner-parts-group-requires : goal.inner-parts-group-requires
-inner-parts-group-requires g c =
+pub inner_parts-group-requires : goal.inner_parts-group-requires
+inner_parts-group-requires g c =
     let t = two g c.args.self.now.outer c.args.self.now.inner in
-    let b : Begun t c.size-size.result.order c.size-size.result.count c.count-width.result c.args.labels.now = begun t _ _ _ _ c.size-size.ensures.order c.size-size.ensures.count c.count-width.ensures c.if-not-takes-one-more.ensures in
-    short_and_wide t _ _ _ _ b c.if-is-empty.ensures
+    let b : Begun t c.size-size.result.order c.size-size.result.count c.count-width.result c.args.labels.now = begun t _ _ _ _ c.size-size.ensures.order c.size-size.ensures.count c.count-width.ensures c.if-not-takes_one_more.ensures in
+    short_and_wide t _ _ _ _ b c.if-is_empty.ensures
 
-pub joined-requires-then-can-grow : goal.joined-requires-then-can-grow
-joined-requires-then-can-grow g c =
+pub joined-requires-then-can_grow : goal.joined-requires-then-can_grow
+joined-requires-then-can_grow g c =
     let t = two g c.args.self.now.outer c.args.self.now.inner in
-    let b : Begun t c.size-size.result.order c.size-size.result.count c.count-width.result c.args.labels.now = begun t _ _ _ _ c.size-size.ensures.order c.size-size.ensures.count c.count-width.ensures c.if-not-takes-one-more.ensures in
-    joined_small t _ _ _ _ b (Some c.in-Some.m) c.choose-then-can-grow.result (leader_part t _ _ _ _ b c.in-Some.m c.as-slice.result.now (listed c.outer-parts-parts.result) c.in-Some.ensures c.as-slice.ensures c.outer-parts-parts.ensures.parts) (chosen_part t.i t.li _ _ c.choose-then-can-grow.ensures)
+    let b : Begun t c.size-size.result.order c.size-size.result.count c.count-width.result c.args.labels.now = begun t _ _ _ _ c.size-size.ensures.order c.size-size.ensures.count c.count-width.ensures c.if-not-takes_one_more.ensures in
+    joined_small t _ _ _ _ b (Some c.in-Some.m) c.choose-then-can_grow.result (leader_part t _ _ _ _ b c.in-Some.m c.as_slice.result.now (listed c.outer_parts-parts.result) c.in-Some.ensures c.as_slice.ensures c.outer_parts-parts.ensures.parts) (chosen_part t.i t.li _ _ c.choose-then-can_grow.ensures)
 
-pub joined-requires-else-can-grow : goal.joined-requires-else-can-grow
-joined-requires-else-can-grow g c =
+pub joined-requires-else-can_grow : goal.joined-requires-else-can_grow
+joined-requires-else-can_grow g c =
     let t = two g c.args.self.now.outer c.args.self.now.inner in
-    let b : Begun t c.size-size.result.order c.size-size.result.count c.count-width.result c.args.labels.now = begun t _ _ _ _ c.size-size.ensures.order c.size-size.ensures.count c.count-width.ensures c.if-not-takes-one-more.ensures in
-    joined_small t _ _ _ _ b _ _ (chosen_part t.o t.lo _ _ c.choose-else-can-grow.ensures) (chosen_part t.i t.li _ _ c.choose-else-can-grow-2.ensures)
+    let b : Begun t c.size-size.result.order c.size-size.result.count c.count-width.result c.args.labels.now = begun t _ _ _ _ c.size-size.ensures.order c.size-size.ensures.count c.count-width.ensures c.if-not-takes_one_more.ensures in
+    joined_small t _ _ _ _ b _ _ (chosen_part t.o t.lo _ _ c.choose-else-can_grow.ensures) (chosen_part t.i t.li _ _ c.choose-else-can_grow-2.ensures)

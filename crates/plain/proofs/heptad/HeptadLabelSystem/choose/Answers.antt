@@ -6,4 +6,4 @@ use Rattle.labels.proofs.Heptad.{heptad_least}
 use Rattle.plain.proofs.heptad.HeptadLabelSystem.choose.Goals as goal
 
 pub returns : goal.returns
-returns c = with_law (ChoosesLeast heptad c.args.labels.now) _ _ (heptad_least c.args.labels.now) c.least-winner.ensures
+returns c = with_law (ChoosesLeast heptad c.args.labels.now) _ _ (heptad_least c.args.labels.now) c.least_winner.ensures
