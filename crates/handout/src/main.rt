@@ -1,5 +1,7 @@
 //! Hands out labels to rolling groups of holders, over the heptad, a counter and pile 4, and prints each round.
 
+#![tactic(auto)]
+
 use labels::LabelSystem;
 use piles::Pile4;
 use plain::{Counter, Heptad};

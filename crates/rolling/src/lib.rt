@@ -1,5 +1,7 @@
 //! A rolling group of holders: the one who has held a label longest gives it back, and a newcomer is given one.
 
+#![tactic(auto)]
+
 ghost use Rattle.std.specs.Prelude.{◌≡◌, ℕ, ◌-◌, ◌<◌, true, ◌↔◌, length, IfOk, slice_index};
 ghost use Rattle.rolling.specs.Rolling.{latest, Rolled};
 
