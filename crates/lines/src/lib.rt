@@ -1,5 +1,7 @@
 //! The lines of a listing: what a station replied to each call of a trace.
 
+#![tactic(auto)]
+
 mod draft;
 mod entry;
 mod line_fault;

@@ -1,3 +1,4 @@
 pub mod Views
 pub mod Layouts
+pub mod Asking
 pub mod Orders

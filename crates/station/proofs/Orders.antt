@@ -1,42 +1,64 @@
 -- Every call is orderly: one row changes at most, and none where it is refused.
-use Rattle.std.proofs.Common.{◌≡◌, ℕ, zero, suc, true, false, eqb, ◌⊎◌, List, [], ◌∷◌, length, Some, None, Ok, Err, Option, sym, refl, ap, subst, inl, inr, arith}
+use Rattle.std.proofs.Common.{◌≡◌, ℕ, zero, suc, ◌-◌, ◌≤◌, Bool, true, false, not, leb, eqb, ◌⊎◌, List, [], ◌∷◌, length, Some, None, Ok, Err, Option, is_some, sym, refl, ap, subst, inl, inr, arith}
 use Rattle.std.proofs.lemmas.List.{length-set, get_or-set_other}
-use Rattle.std.proofs.lemmas.Bool.{eqb-false}
+use Rattle.std.proofs.lemmas.Bool.{and_parts, leb-true, eqb-false}
 use Rattle.labels.specs.System.{System}
+use Rattle.search.specs.Search.{tail_of}
 use Rattle.station.specs.declared.call.Call.{Call}
 use Rattle.station.specs.declared.call.Call.TheVariants.{Open, Join, Leave, Start, Finish, Write, Strike, Read, Earlier, Newer, Label}
 use Rattle.station.specs.declared.answer.Answer.{Answer}
 use Rattle.station.specs.declared.refusal.Refusal.{Refusal}
+use Rattle.station.specs.declared.refusal.Reason.{Reason}
+use Rattle.station.specs.declared.refusal.Reason.TheVariants.{NoSuchSeat, StartTaken, NobodyWaits}
 use Rattle.station.specs.declared.row.Row.{Row}
-use Rattle.station.specs.Table.{Table, blank, row_of, with_row}
+use Rattle.station.specs.Table.{Table, blank, seated, with_row}
 use Rattle.station.specs.Facts.{Facts, questions}
-use Rattle.station.specs.Questions.{first_no, Reply, replied, settled}
-use Rattle.station.specs.Told.{facts}
-use Rattle.station.specs.Rules.{answer, after, next, reply, Ran}
+use Rattle.station.specs.Questions.{Asked, ask, first_no, Reply, replied, settled}
+use Rattle.station.specs.Told.{row_at}
+use Rattle.station.specs.Rules.{waiting_entries, waiting_row, found_row, waiting_seat, line_tail, some_holds, answer, after, next, reply, Ran, questions as asked_of}
+use Rattle.station.proofs.Asking.{but_first}
 use Rattle.station.specs.Orderly.{is_on, rise_from, Orderly}
 
-pub other_row : (t : Table) (seat : ℕ) (row : Row) (other : ℕ) → eqb seat other ≡ false → row_of (with_row t seat row) other ≡ row_of t other
-other_row t zero row other e = refl
-other_row t (suc place) row zero e = refl
-other_row t (suc place) row (suc q) e = get_or-set_other t place q row blank (λ same. eqb-false (suc place) (suc q) e (ap suc (sym same)))
+pub other_row : (t : Table) (seat : ℕ) (row : Row) (other : ℕ) → 1 ≤ seat → eqb seat other ≡ false → row_at (with_row t seat row) other ≡ row_at t other
+other_row t seat row zero low e = refl
+other_row t seat row (suc q) low e = get_or-set_other t (seat - 1) q row blank (λ same. eqb-false seat (suc q) e (omega arith))
 
 length_with_row : (t : Table) (seat : ℕ) (row : Row) → length (with_row t seat row) ≡ length t
-length_with_row t zero row = refl
-length_with_row t (suc place) row = length-set t place row
+length_with_row t seat row = length-set t (seat - 1) row
+
+-- where no question is answered no
+first_holds : (holds : Bool) (reason : Reason) (about : ℕ) (qs : List Asked) → first_no (ask holds reason about ∷ qs) ≡ None → holds ≡ true
+first_holds true reason about qs e = refl
+first_holds false reason about qs e = cc
+
+rest_hold : (holds : Bool) (reason : Reason) (about : ℕ) (qs : List Asked) → first_no (ask holds reason about ∷ qs) ≡ None → first_no qs ≡ None
+rest_hold true reason about qs e = e
+rest_hold false reason about qs e = cc
+
+from_one : (t : Table) (seat : ℕ) (qs : List Asked) → first_no (ask (seated t seat) NoSuchSeat seat ∷ qs) ≡ None → 1 ≤ seat
+from_one t seat qs e = leb-true 1 seat (and_parts (leb 1 seat) (leb seat (length t)) (first_holds (seated t seat) NoSuchSeat seat qs e)).0
+
+found_from_one : (t : Table) (place : Option ℕ) → is_some (found_row waiting_row t place) ≡ true → 1 ≤ waiting_seat (found_row waiting_row t place)
+found_from_one t None e = let z : ◌≡◌ {A = ℕ} 0 1 = cc in absurd (omega arith)
+found_from_one t (Some k) e = omega arith
+
+start_from_one : (s : System) (t : Table) → first_no (asked_of s t Start) ≡ None → 1 ≤ waiting_seat (line_tail s t)
+start_from_one s t e =
+    found_from_one t (tail_of s (waiting_entries t)) (first_holds (is_some (line_tail s t)) NobodyWaits 0 [] (rest_hold (not (some_holds t)) StartTaken 0 (ask (is_some (line_tail s t)) NobodyWaits 0 ∷ []) e))
 
 -- the table after an accepted call, but for the rows that the call is on
-pub others_stay : (s : System) (t : Table) (call : Call) (seat : ℕ) → is_on call (answer s t call) seat ≡ false → row_of (after s t call) seat ≡ row_of t seat
-others_stay s t (Open n) seat e = let z : ◌≡◌ {A = ℕ} 0 1 = cc in absurd (omega arith)
-others_stay s t (Join named) seat e = other_row t named _ seat e
-others_stay s t (Leave named) seat e = other_row t named _ seat e
-others_stay s t Start seat e = other_row t _ _ seat e
-others_stay s t (Finish named) seat e = other_row t named _ seat e
-others_stay s t (Write named map) seat e = other_row t named _ seat e
-others_stay s t (Strike named) seat e = other_row t named _ seat e
-others_stay s t Read seat e = refl
-others_stay s t (Earlier first second) seat e = refl
-others_stay s t (Newer first second) seat e = refl
-others_stay s t (Label named) seat e = refl
+pub others_stay : (s : System) (t : Table) (call : Call) (seat : ℕ) → first_no (asked_of s t call) ≡ None → is_on call (answer s t call) seat ≡ false → row_at (after s t call) seat ≡ row_at t seat
+others_stay s t (Open n) seat accepted e = let z : ◌≡◌ {A = ℕ} 0 1 = cc in absurd (omega arith)
+others_stay s t (Join named) seat accepted e = other_row t named _ seat (from_one t named (but_first (asked_of s t (Join named))) accepted) e
+others_stay s t (Leave named) seat accepted e = other_row t named _ seat (from_one t named (but_first (asked_of s t (Leave named))) accepted) e
+others_stay s t Start seat accepted e = other_row t _ _ seat (start_from_one s t accepted) e
+others_stay s t (Finish named) seat accepted e = other_row t named _ seat (from_one t named (but_first (asked_of s t (Finish named))) accepted) e
+others_stay s t (Write named map) seat accepted e = other_row t named _ seat (from_one t named (but_first (asked_of s t (Write named map))) accepted) e
+others_stay s t (Strike named) seat accepted e = other_row t named _ seat (from_one t named (but_first (asked_of s t (Strike named))) accepted) e
+others_stay s t Read seat accepted e = refl
+others_stay s t (Earlier first second) seat accepted e = refl
+others_stay s t (Newer first second) seat accepted e = refl
+others_stay s t (Label named) seat accepted e = refl
 
 seats_stay : (s : System) (t : Table) (call : Call) → (length (after s t call) ≡ length t) ⊎ ((n : ℕ) × (call ≡ Open n))
 seats_stay s t (Open n) = inr (n, refl)
@@ -64,14 +86,14 @@ by_rising_number (Earlier first second) f = refl
 by_rising_number (Newer first second) f = refl
 by_rising_number (Label named) f = refl
 
-settled_orderly : (s : System) (t : Table) (call : Call) (o : Option Refusal) → Orderly t (settled o t (after s t call)) call (replied o (answer s t call))
-settled_orderly s t call None = record {
+settled_orderly : (s : System) (t : Table) (call : Call) (o : Option Refusal) → first_no (asked_of s t call) ≡ o → Orderly t (settled o t (after s t call)) call (replied o (answer s t call))
+settled_orderly s t call None accepted = record {
   asked = by_rising_number call;
   refused = λ e r. let z : ◌≡◌ {A = ℕ} 0 1 = cc in absurd (omega arith);
-  others = λ a r seat e. let same : answer s t call ≡ a = cc in others_stay s t call seat (subst (λ (x : Answer). is_on call x seat ≡ false) (sym same) e);
+  others = λ a r seat e. let same : answer s t call ≡ a = cc in others_stay s t call seat accepted (subst (λ (x : Answer). is_on call x seat ≡ false) (sym same) e);
   seats = seats_stay s t call;
 }
-settled_orderly s t call (Some refusal) = record { asked = by_rising_number call; refused = λ e r. refl; others = λ a r seat e. refl; seats = inl refl }
+settled_orderly s t call (Some refusal) asked = record { asked = by_rising_number call; refused = λ e r. refl; others = λ a r seat e. refl; seats = inl refl }
 
 pub orderly : (s : System) (before now : Table) (call : Call) (r : Reply) → Ran s before now call r → Orderly before now call r
-orderly s before now call r ran = rw (ran.answers, ran.leaves) (settled_orderly s before call (first_no (questions (facts s before) call)))
+orderly s before now call r ran = rw (ran.answers, ran.leaves) (settled_orderly s before call (first_no (asked_of s before call)) refl)

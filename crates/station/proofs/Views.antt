@@ -6,21 +6,6 @@ use Rattle.station.specs.declared.row.Row.{Row}
 use Rattle.station.specs.Table.{Table, blank, seated, row_of, with_row, with_writing, standing_label}
 use Rattle.station.specs.Rules.{standing_entries}
 
--- a seat's row stands one place before its number
-pub row_at : (t : Table) (seat : ℕ) → 1 ≤ seat → row_of t seat ≡ get_or t (seat - 1) blank
-row_at t zero low = absurd (omega arith)
-row_at t (suc place) low = ap (λ k. get_or t k blank) before
-  where
-    before : place ≡ suc place - 1
-    before = omega arith
-
-pub with_row_at : (t : Table) (seat : ℕ) (row : Row) → 1 ≤ seat → with_row t seat row ≡ set t (seat - 1) row
-with_row_at t zero row low = absurd (omega arith)
-with_row_at t (suc place) row low = ap (λ k. set t k row) before
-  where
-    before : place ≡ suc place - 1
-    before = omega arith
-
 module _ (n : ℕ) (rows : List Row) (few : n ≤ 20) (wide : length rows ≡ 20) where
   pub table_length : length (take n rows) ≡ n
   table_length = length-take-le n rows (omega arith)
@@ -34,7 +19,7 @@ module _ (n : ℕ) (rows : List Row) (few : n ≤ 20) (wide : length rows ≡ 20
       (leb-true 1 seat p.0, omega (arith, leb-true seat (length (take n rows)) p.1, table_length))
 
   pub row_is : (seat : ℕ) → seated (take n rows) seat ≡ true → get_or rows (seat - 1) blank ≡ row_of (take n rows) seat
-  row_is seat e = let p = seat_parts seat e in sym (row_at (take n rows) seat p.0 ∙ get_or-take n rows (seat - 1) blank (omega arith))
+  row_is seat e = let p = seat_parts seat e in sym (get_or-take n rows (seat - 1) blank (omega arith))
 
 pub take_set : {X : Type 0} (n : ℕ) (rows : List X) (i : ℕ) (row : X) → i < n → take n (set rows i row) ≡ set (take n rows) i row
 take_set zero rows i row lt = absurd (omega arith)
@@ -43,10 +28,4 @@ take_set (suc n) (x ∷ xs) zero row lt = refl
 take_set (suc n) (x ∷ xs) (suc i) row lt = ap (λ l. x ∷ l) (take_set n xs i row (omega arith))
 
 pub changed_is : (n : ℕ) (rows : List Row) → n ≤ 20 → length rows ≡ 20 → (seat : ℕ) (row : Row) → seated (take n rows) seat ≡ true → take n (set rows (seat - 1) row) ≡ with_row (take n rows) seat row
-changed_is n rows few wide seat row e = let p = seat_parts n rows few wide seat e in take_set n rows (seat - 1) row (omega arith) ∙ sym (with_row_at (take n rows) seat row p.0)
-
--- the entries beside a seat's own
-pub others_are : (t : Table) (seat : ℕ) → 1 ≤ seat → set (standing_entries t) (seat - 1) None ≡ standing_entries (with_writing t seat None)
-others_are t seat low =
-    let row : Row = record { line = (row_of t seat).line; writing = None } in
-    sym (ap standing_entries (with_row_at t seat row low) ∙ map-set standing_label t (seat - 1) row)
+changed_is n rows few wide seat row e = let p = seat_parts n rows few wide seat e in take_set n rows (seat - 1) row (omega arith)

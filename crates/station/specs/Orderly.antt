@@ -5,7 +5,8 @@ use Rattle.station.specs.declared.call.Call.TheVariants.{Open, Join, Leave, Star
 use Rattle.station.specs.declared.answer.Answer.{Answer}
 use Rattle.station.specs.declared.answer.Answer.TheVariants.{Done, Started, Reading, Verdict, Labelled}
 use Rattle.station.specs.declared.refusal.Refusal.{Refusal}
-use Rattle.station.specs.Table.{Table, row_of}
+use Rattle.station.specs.Table.{Table}
+use Rattle.station.specs.Told.{row_at}
 use Rattle.station.specs.Numbers.{number}
 use Rattle.station.specs.Questions.{Asked, Reply}
 use Rattle.station.specs.Facts.{Facts, questions}
@@ -43,6 +44,6 @@ pub record Orderly (before now : Table) (call : Call) (r : Reply) : Type 0 where
   -- a refusal leaves everything as it was
   pub refused : (e : Refusal) → r ≡ Err e → now ≡ before
   -- a call on one seat leaves every other row as it was
-  pub others : (a : Answer) → r ≡ Ok a → (seat : ℕ) → is_on call a seat ≡ false → row_of now seat ≡ row_of before seat
+  pub others : (a : Answer) → r ≡ Ok a → (seat : ℕ) → is_on call a seat ≡ false → row_at now seat ≡ row_at before seat
   -- no call but an opening changes the number of seats
   pub seats : (length now ≡ length before) ⊎ ((n : ℕ) × (call ≡ Open n))

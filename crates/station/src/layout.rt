@@ -49,7 +49,7 @@ impl Laid for WritingRow {
 /// The rows of the seats, by rising seat, at the front of an array.
 pub(crate) fn lay_out<R: Laid + Copy>(rows: &[Row], blank: R) -> [R; 20]
     requires { length rows.now ≤ 20 }
-    ensures { take (length rows.now) result ≡ laid_out laid 1 rows.now }
+    ensures { take (length rows.now) result ≡ laid_out R.laid 1 rows.now }
 {
     let mut out = [blank; 20];
     for place in 0..rows.len() {
@@ -61,7 +61,7 @@ pub(crate) fn lay_out<R: Laid + Copy>(rows: &[Row], blank: R) -> [R; 20]
 /// The row at a place, for the seat one above it.
 fn lay_at<R: Laid>(rows: &[Row], place: usize) -> R
     requires { (place < length rows.now) × (length rows.now ≤ 20) }
-    ensures { result ≡ laid (place + 1) (slice_index_or rows.now place blank) }
+    ensures { result ≡ R.laid (place + 1) (slice_index_or rows.now place blank) }
 {
     R::lay(place as u8 + 1, rows[place])
 }

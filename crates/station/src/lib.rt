@@ -1,5 +1,7 @@
 //! The station: a start line and a map register for up to twenty seats, over any label system.
 
+#![tactic(auto)]
+
 mod answer;
 mod call;
 mod layout;

@@ -1,5 +1,7 @@
 //! Trace words: the calls of a station, one to a word of 32 bits, after a head that names the pile.
 
+#![tactic(auto)]
+
 mod bytes;
 mod fault;
 mod fields;

@@ -8,11 +8,11 @@ put-requires-2 c = search (rules, length-append)
 pub put-requires-3 : goal.put-requires-3
 put-requires-3 c = search (rules, length-append)
 
-pub put-result-requires : goal.put-result-requires
-put-result-requires c = search (rules, length-append)
+pub put_result-requires : goal.put_result-requires
+put_result-requires c = search (rules, length-append)
 
-pub end-line-requires : goal.end-line-requires
-end-line-requires c = search (rules, length-append)
+pub end_line-requires : goal.end_line-requires
+end_line-requires c = search (rules, length-append)
 
 pub returns : goal.returns
 returns c = search (rules, append_assoc, length-append)

@@ -5,8 +5,8 @@ use Rattle.lines.proofs.writing.put_seat_map.Goals as goal
 pub put-requires : goal.put-requires
 put-requires c = search (rules, length-append)
 
-pub put-map-requires : goal.put-map-requires
-put-map-requires c = search (rules, length-append)
+pub put_map-requires : goal.put_map-requires
+put_map-requires c = search (rules, length-append)
 
 pub returns : goal.returns
 returns c = search (rules, append_assoc, length-append)

@@ -2,8 +2,8 @@
 use Rattle.std.proofs.Common.{append_assoc, length-append, rules}
 use Rattle.lines.proofs.writing.put_worded.Goals as goal
 
-pub put-u8-requires : goal.put-u8-requires
-put-u8-requires c = search (rules, length-append)
+pub put_u8-requires : goal.put_u8-requires
+put_u8-requires c = search (rules, length-append)
 
 pub returns : goal.returns
 returns c = search (rules, append_assoc)

@@ -7,8 +7,8 @@ use Rattle.station.proofs.layout.lay_out.Goals as goal
 
 pub loop-place-preserved : goal.loop-place-preserved
 loop-place-preserved g c = (
-  ap (λ x. take (c.loop-place.place + 1) (set c.loop-place.out c.loop-place.place x)) c.lay-at.ensures ∙ laid_more g.R.Laid.laid c.args.rows.now c.loop-place.out c.loop-place.place _ c.loop-place-test.true (omega (arith, c.requires, c.loop-place-test.true, c.loop-place.invariant.1)) c.loop-place.invariant.0,
-  length-set c.loop-place.out c.loop-place.place c.lay-at.result ∙ c.loop-place.invariant.1,
+  ap (λ x. take (c.loop-place.place + 1) (set c.loop-place.out c.loop-place.place x)) c.lay_at.ensures ∙ laid_more g.R.Laid.laid c.args.rows.now c.loop-place.out c.loop-place.place _ c.loop-place-test.true (omega (arith, c.requires, c.loop-place-test.true, c.loop-place.invariant.1)) c.loop-place.invariant.0,
+  length-set c.loop-place.out c.loop-place.place c.lay_at.result ∙ c.loop-place.invariant.1,
 )
 
 pub returns : goal.returns

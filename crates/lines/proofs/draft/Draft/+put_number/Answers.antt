@@ -3,10 +3,10 @@ use Rattle.std.proofs.Common.{◌≡◌, ◌+◌, ◌%◌, [], ◌∷◌, ◌++�
 use Rattle.lines.specs.Drafts.{text}
 use Rattle.lines.proofs.Digits.{last_digit, only_digit, length_more}
 use Rattle.lines.proofs.draft.Draft.+put_number.Goals as goal
-use Rattle.lines.proofs.draft.Draft.+put_number.Goals.{in-Some, in-default, Joined-front}
+use Rattle.lines.proofs.draft.Draft.+put_number.Goals.{in-Some, in_default, Joined-front}
 
-pub put-number-requires : goal.put-number-requires
-put-number-requires t c =
+pub put_number-requires : goal.put_number-requires
+put_number-requires t c =
     let h = c.in-Some.ensures in
     let shorter = ap (λ q. length (decimal q)) h.1 in
     (omega arith, omega (arith, shorter, length_more c.args.n h.0 c.ranges.n.fits))
@@ -16,8 +16,8 @@ whole t c =
     elim c.match-front.branch [
       | in-Some w ↦
           let h = w.in-Some.ensures in
-          last_digit _ _ c.args.n h.0 c.ranges.n.fits (ap text w.self-is ∙ w.put-number.ensures ∙ ap (λ q. text c.args.self.now ++ decimal q) h.1)
-      | in-default w ↦ only_digit _ _ c.args.n w.in-default.ensures (ap text w.self-is)
+          last_digit _ _ c.args.n h.0 c.ranges.n.fits (ap text w.self-is ∙ w.put_number.ensures ∙ ap (λ q. text c.args.self.now ++ decimal q) h.1)
+      | in_default w ↦ only_digit _ _ c.args.n w.in_default.ensures (ap text w.self-is)
     ]
 
 pub put-requires : goal.put-requires

@@ -3,8 +3,8 @@ use Rattle.std.proofs.Common.{rules}
 use Rattle.std.proofs.lemmas.Slice.{overwrites}
 use Rattle.lines.proofs.draft.Draft.put.Goals as goal
 
-pub invariant-of-self : goal.invariant-of-self
-invariant-of-self c = search (rules, overwrites)
+pub invariant_of-self : goal.invariant_of-self
+invariant_of-self c = search (rules, overwrites)
 
 pub returns : goal.returns
 returns c = search (rules, overwrites)

@@ -6,7 +6,7 @@ use Rattle.station.specs.Table.{blank, standing_label}
 use Rattle.station.specs.Rules.{writing_row}
 use Rattle.station.specs.View.{table}
 use Rattle.station.proofs.Layouts.{listed_others}
-use Rattle.station.proofs.Views.{seat_parts, table_length, others_are}
+use Rattle.station.proofs.Views.{seat_parts, table_length}
 use Rattle.station.proofs.station.Station.standing_choice.Goals as goal
 
 pub returns : goal.returns
@@ -14,4 +14,4 @@ returns g c =
     let s = c.args.self.now in
     let seat = seat_parts s.seats s.rows s.few.0 s.few.1 c.args.seat c.requires in
     let choice = (g.S.LabelSystem.meaning s.system).choice in
-    ◌∙◌ {b = choice c.as-slice.result.now} c.choose.ensures (ap choice (c.as-slice.ensures ∙ c.labels-in.ensures ∙ listed_others writing_row (λ (r : WritingRow). r.label) standing_label (λ n row. refl) (table s) c.seat-rows-seats.result.now c.lay-out-rows.result c.seat-rows-seats.ensures.rows c.seat-rows-seats.ensures.few c.lay-out-rows.ensures (c.args.seat - 1) (writing_row 0 blank) refl (omega (arith, seat, ap length c.seat-rows-seats.ensures.rows, table_length s.seats s.rows s.few.0 s.few.1)) c.leave-out.new.rows c.leave-out.ensures ∙ ap labels_in (others_are (table s) c.args.seat seat.0)))
+    ◌∙◌ {b = choice c.as_slice.result.now} c.choose.ensures (ap choice (c.as_slice.ensures ∙ c.labels_in.ensures ∙ listed_others writing_row (λ (r : WritingRow). r.label) standing_label (λ n row. refl) (table s) c.seat_rows-seats.result.now c.lay_out-rows.result c.seat_rows-seats.ensures.rows c.seat_rows-seats.ensures.few c.lay_out-rows.ensures (c.args.seat - 1) (writing_row 0 blank) refl (omega (arith, seat, ap length c.seat_rows-seats.ensures.rows, table_length s.seats s.rows s.few.0 s.few.1)) c.leave_out.new.rows c.leave_out.ensures))

@@ -9,4 +9,4 @@ use Rattle.station.proofs.station.Station.waiting_choice.Goals as goal
 
 pub returns : goal.returns
 returns g c =
-    c.choose.ensures ∙ ap (g.S.LabelSystem.meaning c.args.self.now.system).choice (c.as-slice.ensures ∙ c.labels-in.ensures ∙ listed_all waiting_row (λ (r : WaitingRow). r.label) waiting_label (λ n row. refl) (table c.args.self.now) c.seat-rows-seats.result.now c.lay-out-rows.result c.seat-rows-seats.ensures.rows c.seat-rows-seats.ensures.few c.lay-out-rows.ensures)
+    c.choose.ensures ∙ ap (g.S.LabelSystem.meaning c.args.self.now.system).choice (c.as_slice.ensures ∙ c.labels_in.ensures ∙ listed_all waiting_row (λ (r : WaitingRow). r.label) waiting_label (λ n row. refl) (table c.args.self.now) c.seat_rows-seats.result.now c.lay_out-rows.result c.seat_rows-seats.ensures.rows c.seat_rows-seats.ensures.few c.lay_out-rows.ensures)
