@@ -1,5 +1,7 @@
 //! From the bytes of a trace to its listing.
 
+#![tactic(auto)]
+
 mod fault;
 mod playing;
 mod stepping;

@@ -2,7 +2,8 @@
 use Rattle.std.proofs.Common.{◌≡◌, ℕ, true, List, [], ◌∷◌, length, Some, None, sym, ap, ◌∙◌}
 use Rattle.labels.specs.System.{System, Laws}
 use Rattle.station.specs.declared.call.Call.{Call}
-use Rattle.station.specs.Table.{Table, row_of, is_holding}
+use Rattle.station.specs.Table.{Table, is_holding}
+use Rattle.station.specs.Told.{row_at}
 use Rattle.station.specs.Rules.{reply, next}
 use Rattle.lives.specs.History.{History, seats, holder, line_change, register_change, everyone, others, waiting, standing}
 use Rattle.lives.specs.Lives.{replies, table_after, recorded}
@@ -31,7 +32,7 @@ module _ (s : System) (laws : Laws s) where
     one_holder = λ a b e d. let one = holds a e in let other = holds b d in cc;
   }
     where
-      holds : (seat : ℕ) → is_holding (row_of t seat) ≡ true → holder past ≡ Some seat
+      holds : (seat : ℕ) → is_holding (row_at t seat) ≡ true → holder past ≡ Some seat
       holds seat e = is_seat_true (holder past) seat (sym (holds_told s laws t (seats past) (waiting s past) (standing s past) (holder past) (length past) h seat) ∙ e)
 
   shown_from : (calls : List Call) (t : Table) (past : History) → Fits s t past → Shows s (table_after s t calls) (recorded past calls (replies s t calls))

@@ -15,7 +15,9 @@ use Rattle.station.specs.Numbers.{number}
 use Rattle.station.specs.Table.{Table, blank, row_of, waiting_label, standing_label}
 use Rattle.station.specs.Questions.{Asked, ask, first_no, Reply, replied}
 use Rattle.station.specs.Facts.{Facts, is_seat, questions}
-use Rattle.station.specs.Rules.{standing_entries, writing_row, written_map, found_row, line_tail, register_head, waiting_seat, writing_seat, map_in_force, or_zero, label_beats, facts, answer, reply}
+use Rattle.station.specs.Rules.{standing_entries, writing_row, written_map, found_row, line_tail, register_head, waiting_seat, writing_seat, map_in_force, or_zero, label_beats, answer, reply, questions as asked_of}
+use Rattle.station.specs.Told.{facts}
+use Rattle.station.proofs.Asking.{row_alike}
 use Rattle.lives.specs.History.{Moment, History, event_of, seats, holder, Stay, Stays, comes, line_change, register_change, labels_by_seat, with_stay, begun, stay_label, waiting, standing, is_seat as holds-seat, facts_told}
 use Rattle.lives.specs.Answers.{Nobody, Latest, InForce, Compared, RightAnswer, refusal, RefusedWith, Begins, Right}
 use Rattle.lives.specs.Promises.{writing_told, map_written}
@@ -201,23 +203,23 @@ module _ (s : System) (laws : Laws s) (t : Table) (past : History) (h : Fits s t
   answered (Earlier a b) yes' =
       let v = is_some (waiting s past a) yes'.1.1.0 in
       let w = is_some (waiting s past b) yes'.1.1.1.0 in
-      let at_a = label_waits s laws t (seats past) (waiting s past) (standing s past) (holder past) (length past) h a ∙ ap stay_label v.1 in
-      let at_b = label_waits s laws t (seats past) (waiting s past) (standing s past) (holder past) (length past) h b ∙ ap stay_label w.1 in
+      let at_a = ap waiting_label (row_alike t a (in_seats (seats past) a yes'.0).0) ∙ label_waits s laws t (seats past) (waiting s past) (standing s past) (holder past) (length past) h a ∙ ap stay_label v.1 in
+      let at_b = ap waiting_label (row_alike t b (in_seats (seats past) b yes'.1.0).0) ∙ label_waits s laws t (seats past) (waiting s past) (standing s past) (holder past) (length past) h b ∙ ap stay_label w.1 in
       (s.beats w.0.label v.0.label, ap (λ x. Verdict (label_beats s x (waiting_label (row_of t a)))) at_b ∙ ap (λ x. Verdict (label_beats s (Some w.0.label) x)) at_a, compared s laws (seats past) (waiting s past) (length past) h.line a b v.0 w.0 v.1 w.1)
   answered (Newer a b) yes' =
       let v = is_some (standing s past a) yes'.1.1.0 in
       let w = is_some (standing s past b) yes'.1.1.1.0 in
-      let at_a = label_stands s laws t (seats past) (waiting s past) (standing s past) (holder past) (length past) h a ∙ ap stay_label v.1 in
-      let at_b = label_stands s laws t (seats past) (waiting s past) (standing s past) (holder past) (length past) h b ∙ ap stay_label w.1 in
+      let at_a = ap standing_label (row_alike t a (in_seats (seats past) a yes'.0).0) ∙ label_stands s laws t (seats past) (waiting s past) (standing s past) (holder past) (length past) h a ∙ ap stay_label v.1 in
+      let at_b = ap standing_label (row_alike t b (in_seats (seats past) b yes'.1.0).0) ∙ label_stands s laws t (seats past) (waiting s past) (standing s past) (holder past) (length past) h b ∙ ap stay_label w.1 in
       (s.beats v.0.label w.0.label, ap (λ x. Verdict (label_beats s x (standing_label (row_of t b)))) at_a ∙ ap (λ x. Verdict (label_beats s (Some v.0.label) x)) at_b, compared s laws (seats past) (standing s past) (length past) h.register b a w.0 v.0 w.1 v.1)
   answered (Label seat) yes' =
       let w = is_some (standing s past seat) yes'.1.0 in
-      (w.0, w.1, ap (λ x. Labelled (or_zero x)) (label_stands s laws t (seats past) (waiting s past) (standing s past) (holder past) (length past) h seat ∙ ap stay_label w.1))
+      (w.0, w.1, ap (λ x. Labelled (or_zero x)) (ap standing_label (row_alike t seat (in_seats (seats past) seat yes'.0).0) ∙ label_stands s laws t (seats past) (waiting s past) (standing s past) (holder past) (length past) h seat ∙ ap stay_label w.1))
 
-  yes_where_accepted : (call : Call) → first_no (questions (facts s t) call) ≡ None → Yes call
+  yes_where_accepted : (call : Call) → first_no (asked_of s t call) ≡ None → Yes call
   yes_where_accepted call e = all_yes (questions (facts_told s past) call) (sym (same_questions s laws t past h call) ∙ e)
 
-  joins : (call : Call) (o : Option Refusal) → first_no (questions (facts s t) call) ≡ o → Begins (waiting s) line_change past (record { call = call; reply = replied o (answer s t call) })
+  joins : (call : Call) (o : Option Refusal) → first_no (asked_of s t call) ≡ o → Begins (waiting s) line_change past (record { call = call; reply = replied o (answer s t call) })
   joins call (Some e) is seat change = let z : ◌≡◌ {A = ℕ} 0 1 = cc in absurd (omega arith)
   joins (Open n) None is seat change = let z : ◌≡◌ {A = ℕ} 0 1 = cc in absurd (omega arith)
   joins (Join named) None is seat change = begun_here (waiting s past) named seat (length past) (Join named) (s.choice (labels_by_seat (seats past) (waiting s past))) change (yes_where_accepted (Join named) is).1.1.0
@@ -231,7 +233,7 @@ module _ (s : System) (laws : Laws s) (t : Table) (past : History) (h : Fits s t
   joins (Newer a b) None is seat change = let z : ◌≡◌ {A = ℕ} 0 1 = cc in absurd (omega arith)
   joins (Label named) None is seat change = let z : ◌≡◌ {A = ℕ} 0 1 = cc in absurd (omega arith)
 
-  writes : (call : Call) (o : Option Refusal) → first_no (questions (facts s t) call) ≡ o → Begins (standing s) register_change past (record { call = call; reply = replied o (answer s t call) })
+  writes : (call : Call) (o : Option Refusal) → first_no (asked_of s t call) ≡ o → Begins (standing s) register_change past (record { call = call; reply = replied o (answer s t call) })
   writes call (Some e) is seat change = let z : ◌≡◌ {A = ℕ} 0 1 = cc in absurd (omega arith)
   writes (Open n) None is seat change = let z : ◌≡◌ {A = ℕ} 0 1 = cc in absurd (omega arith)
   writes (Join named) None is seat change = let z : ◌≡◌ {A = ℕ} 0 1 = cc in absurd (omega arith)
@@ -254,14 +256,14 @@ module _ (s : System) (laws : Laws s) (t : Table) (past : History) (h : Fits s t
       never_none s laws (seats past) (with_stay (standing s past) seat None) (length past) h.reach (healthy_without s laws (seats past) (standing s past) (length past) h.register seat within.0 within.1) seat within.0 within.1 (with_same (standing s past) seat None) endless (is_none (s.choice (labels_by_seat (seats past) (with_stay (standing s past) seat None))) none)
 
   refused : (call : Call) → refusal (reply s t call) ≡ first_no (questions (facts_told s past) call)
-  refused call = refusal_replied (first_no (questions (facts s t) call)) (answer s t call) ∙ same_questions s laws t past h call
+  refused call = refusal_replied (first_no (asked_of s t call)) (answer s t call) ∙ same_questions s laws t past h call
 
   pub right : (call : Call) → Right s past (record { call = call; reply = reply s t call })
   right call = record {
     refused = refused call;
-    answered = λ a e. let p = accepted_reply (first_no (questions (facts s t) call)) (answer s t call) a e in subst (λ (x : Answer). RightAnswer s past call x) p.1 (answered call (yes_where_accepted call p.0));
-    joins = joins call (first_no (questions (facts s t) call)) refl;
-    writes = writes call (first_no (questions (facts s t) call)) refl;
+    answered = λ a e. let p = accepted_reply (first_no (asked_of s t call)) (answer s t call) a e in subst (λ (x : Answer). RightAnswer s past call x) p.1 (answered call (yes_where_accepted call p.0));
+    joins = joins call (first_no (asked_of s t call)) refl;
+    writes = writes call (first_no (asked_of s t call)) refl;
     start_taken = λ is. taken (reply s t call) (holder past) (facts_told s past).has_tail (refused call ∙ ap (λ (c : Call). first_no (questions (facts_told s past) c)) is);
     nobody_waits = λ p. nobody_else s (seats past) (waiting s past) (length past) h.line (no_tail (facts_told s past) call p.0 (sym (refused call) ∙ refusal_of (reply s t call) p.0 p.1) p.2);
     nothing_stands = λ p. nobody_else s (seats past) (standing s past) (length past) h.register (no_head (facts_told s past) call p.0 (sym (refused call) ∙ refusal_of (reply s t call) p.0 p.1) p.2);

@@ -1,17 +1,17 @@
 -- A table that shows who waits, what stands and who holds the start tells the same facts as they do.
 use Rattle.std.proofs.Common.{◌≡◌, ℕ, zero, suc, ◌+◌, ◌-◌, ◌<◌, ◌≤◌, Bool, true, false, not, ◌&&◌, ◌||◌, eqb, ◌≢◌, List, [], ◌∷◌, map, length, get_or, set, is_some, Some, None, Option, sym, refl, ap, ◌∙◌, subst, inl, inr, arith}
 use mathlib.Core.Path.{fun_ext}
-use Rattle.std.proofs.lemmas.List.{get_or_past, set_past}
+use Rattle.std.proofs.lemmas.List.{get_or_past, set_past, length-map}
 use Rattle.std.proofs.lemmas.Bool.{cases_eq, cases_lt, cases_Bool, eq-eqb, eqb-true, or_left, or_right, or_from}
 use Rattle.labels.specs.System.{System, Laws}
 use Rattle.search.specs.Search.{labels_in, head_of, tail_of}
 use Rattle.station.specs.declared.call.Call.TheVariants.{Write}
 use Rattle.station.specs.declared.row.Line.TheVariants.{Idle, Waiting, Holding}
 use Rattle.station.specs.declared.row.Row.{Row}
-use Rattle.station.specs.Table.{Table, blank, row_of, with_row, with_writing, line_label, writing_label, waiting_label, standing_label, is_idle, is_holding}
+use Rattle.station.specs.Table.{Table, blank, line_label, writing_label, waiting_label, standing_label, is_idle, is_holding}
 use Rattle.station.specs.Facts.{Facts}
-use Rattle.station.specs.Rules.{waiting_entries, standing_entries, waiting_row, writing_row, found_row, line_tail, register_head, waiting_choice, standing_choice, some_holds, facts}
-use Rattle.station.proofs.Views.{with_row_at, others_are}
+use Rattle.station.specs.Rules.{waiting_entries, standing_entries, waiting_row, writing_row, found_row, line_tail, register_head, waiting_choice, some_holds}
+use Rattle.station.specs.Told.{row_at, entries_beside, facts}
 use Rattle.lives.specs.History.{Stay, Stays, stay_label, from, rising, entries, labels_by_seat, with_stay, others, someone, is_seat}
 use Rattle.lives.specs.Promises.{line_told, writing_told}
 use Rattle.lives.proofs.BySeat.{length_by_seat, at_place, same_by_seat, map_map}
@@ -120,7 +120,7 @@ module _ (s : System) (laws : Laws s) (t : Table) (n : ℕ) (f g : Stays) (hold 
       (none_beyond s n f now h.line seat out) (not_holding seat (λ e. out (h.held seat e).0 (h.held seat e).1)) (none_beyond s n g now h.register seat out)
 
   -- each seat's row
-  pub row_shown : (seat : ℕ) → row_of t seat ≡ told_rows f g hold seat
+  pub row_shown : (seat : ℕ) → row_at t seat ≡ told_rows f g hold seat
   row_shown zero = sym (blank_beyond 0 (λ l u. omega arith))
   row_shown (suc k) =
       elim (cases_lt k n) [
@@ -128,13 +128,13 @@ module _ (s : System) (laws : Laws s) (t : Table) (n : ℕ) (f g : Stays) (hold 
         | inr l ↦ get_or_past t k blank (omega (arith, size)) ∙ sym (blank_beyond (suc k) (λ a b. omega arith))
       ]
 
-  pub holds_told : (seat : ℕ) → is_holding (row_of t seat) ≡ is_seat hold seat
+  pub holds_told : (seat : ℕ) → is_holding (row_at t seat) ≡ is_seat hold seat
   holds_told seat = ap is_holding (row_shown seat) ∙ holding_row (f seat) (is_seat hold seat) (g seat) (λ e. (h.held seat (is_seat_true hold seat e)).2)
 
-  pub label_waits : (seat : ℕ) → waiting_label (row_of t seat) ≡ stay_label (f seat)
+  pub label_waits : (seat : ℕ) → waiting_label (row_at t seat) ≡ stay_label (f seat)
   label_waits seat = ap waiting_label (row_shown seat) ∙ line_label_told (f seat) (is_seat hold seat)
 
-  pub label_stands : (seat : ℕ) → standing_label (row_of t seat) ≡ stay_label (g seat)
+  pub label_stands : (seat : ℕ) → standing_label (row_at t seat) ≡ stay_label (g seat)
   label_stands seat = ap standing_label (row_shown seat) ∙ writing_label_told (g seat)
 
   -- what the searches look through, and what a choice is made beside
@@ -147,29 +147,29 @@ module _ (s : System) (laws : Laws s) (t : Table) (n : ℕ) (f g : Stays) (hold 
   pub choice_waits : waiting_choice s t ≡ s.choice (labels_by_seat n f)
   choice_waits = ap (λ ls. s.choice (labels_in ls)) line_entries
 
-  other_entries : (seat : ℕ) → standing_entries (with_writing t seat None) ≡ entries n (with_stay g seat None)
+  other_entries : (seat : ℕ) → entries_beside t seat ≡ entries n (with_stay g seat None)
   other_entries zero = register_entries ∙ ap (entries n) (sym (without_none g 0 (none_beyond s n g now h.register 0 (λ l u. omega arith))))
   other_entries (suc k) =
       elim (cases_lt k n) [
         | inl l ↦
-            let at : suc k - 1 ≡ k = omega arith in
-            sym (others_are t (suc k) (omega arith)) ∙ ap (λ e. set e (suc k - 1) None) register_entries ∙ sym (entries_with n g (suc k) None (omega arith) (omega arith))
+            let at : k ≡ suc k - 1 = omega arith in
+            ap (λ e. set e k None) register_entries ∙ ap (λ p. set (entries n g) p None) at ∙ sym (entries_with n g (suc k) None (omega arith) (omega arith))
         | inr l ↦
-            ap standing_entries (set_past t k _ (omega (arith, size))) ∙ register_entries
+            set_past (standing_entries t) k None (omega (arith, size, length-map t standing_label)) ∙ register_entries
             ∙ ap (entries n) (sym (without_none g (suc k) (none_beyond s n g now h.register (suc k) (λ a b. omega arith))))
       ]
 
-  pub choice_stands : (seat : ℕ) → standing_choice s t seat ≡ s.choice (labels_by_seat n (with_stay g seat None))
+  pub choice_stands : (seat : ℕ) → s.choice (labels_in (entries_beside t seat)) ≡ s.choice (labels_by_seat n (with_stay g seat None))
   choice_stands seat = ap (λ ls. s.choice (labels_in ls)) (other_entries seat)
 
   -- the facts
-  waits_told : (seat : ℕ) → is_some (waiting_label (row_of t seat)) ≡ is_some (f seat)
+  waits_told : (seat : ℕ) → is_some (waiting_label (row_at t seat)) ≡ is_some (f seat)
   waits_told seat = ap is_some (label_waits seat) ∙ has_label (f seat)
 
-  stands_told : (seat : ℕ) → is_some (standing_label (row_of t seat)) ≡ is_some (g seat)
+  stands_told : (seat : ℕ) → is_some (standing_label (row_at t seat)) ≡ is_some (g seat)
   stands_told seat = ap is_some (label_stands seat) ∙ has_label (g seat)
 
-  idle_told : (seat : ℕ) → is_idle (row_of t seat) ≡ (not (is_some (f seat)) && not (is_seat hold seat))
+  idle_told : (seat : ℕ) → is_idle (row_at t seat) ≡ (not (is_some (f seat)) && not (is_seat hold seat))
   idle_told seat = ap is_idle (row_shown seat) ∙ idle_row (f seat) (is_seat hold seat) (g seat)
 
   some_holds_told : some_holds t ≡ is_some hold

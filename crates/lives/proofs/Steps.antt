@@ -4,7 +4,7 @@ use Rattle.std.proofs.lemmas.List.{length-replicate, get_or-replicate, ext_get_o
 use Rattle.std.proofs.lemmas.Bool.{and_parts, leb-true, eqb-true, eq-eqb, ne_eqb, not-true}
 use Rattle.std.specs.List.{AllByRecursion as All}
 use Rattle.labels.specs.System.{System, Laws}
-use Rattle.search.specs.Search.{head_of, tail_of}
+use Rattle.search.specs.Search.{head_of, tail_of, labels_in}
 use Rattle.station.specs.declared.call.Call.{Call}
 use Rattle.station.specs.declared.call.Call.TheVariants.{Open, Join, Leave, Start, Finish, Write, Strike, Read, Earlier, Newer, Label}
 use Rattle.station.specs.declared.answer.Answer.{Answer}
@@ -16,8 +16,9 @@ use Rattle.station.specs.declared.row.Row.{Row}
 use Rattle.station.specs.Table.{Table, blank, opened_for, row_of, with_row, with_line, with_writing}
 use Rattle.station.specs.Questions.{Asked, first_no, replied, settled}
 use Rattle.station.specs.Facts.{Facts, questions}
-use Rattle.station.specs.Rules.{waiting_row, found_row, line_tail, waiting_seat, waiting_entries, waiting_choice, standing_choice, or_zero, facts, answer, after, reply, next}
-use Rattle.station.proofs.Views.{with_row_at}
+use Rattle.station.specs.Rules.{waiting_row, found_row, line_tail, waiting_seat, waiting_entries, waiting_choice, standing_choice, or_zero, answer, after, reply, next, questions as asked_of}
+use Rattle.station.specs.Told.{facts}
+use Rattle.station.proofs.Asking.{row_alike, beside_alike, asked_alike}
 use Rattle.lives.specs.History.{Moment, History, seats, holder, Stay, Stays, rising, entries, labels_by_seat, with_stay, begun, waiting, standing, is_seat, facts_told}
 use Rattle.lives.specs.Answers.{Nobody, Longest}
 use Rattle.lives.specs.Promises.{line_told, writing_told}
@@ -65,7 +66,7 @@ idle_seat o b e =
 
 module _ (s : System) (laws : Laws s) (t : Table) (n : ℕ) (f g : Stays) (hold : Option ℕ) (now : ℕ) (h : Shown s t n f g hold now) (seat : ℕ) (low : 1 ≤ seat) (high : seat ≤ n) where
   row_changed : (row : Row) (f' g' : Stays) (hold' : Option ℕ) → told_rows f' g' hold' seat ≡ row → ((q : ℕ) → q ≢ seat → told_rows f' g' hold' q ≡ told_rows f g hold q) → with_row t seat row ≡ map (told_rows f' g' hold') (rising n)
-  row_changed row f' g' hold' here other = with_row_at t seat row low ∙ ap (λ r. set r (seat - 1) row) h.rows ∙ set_by_seat (told_rows f g hold) (told_rows f' g' hold') n seat row low high here other
+  row_changed row f' g' hold' here other = ap (λ r. set r (seat - 1) row) h.rows ∙ set_by_seat (told_rows f g hold) (told_rows f' g' hold') n seat row low high here other
 
   pub line_changed : (l : Line) (o : Option Stay) (hold' : Option ℕ) → line_told o (is_seat hold' seat) ≡ l → ((q : ℕ) → q ≢ seat → is_seat hold' q ≡ is_seat hold q) → Healthy s n (with_stay f seat o) (suc now) → ((q : ℕ) → hold' ≡ Some q → (1 ≤ q) × (q ≤ n) × (with_stay f seat o q ≡ None)) → Shown s (with_line t seat l) n (with_stay f seat o) g hold' (suc now)
   line_changed l o hold' is other healthy held = record {
@@ -81,7 +82,7 @@ module _ (s : System) (laws : Laws s) (t : Table) (n : ℕ) (f g : Stays) (hold 
       here : told_rows (with_stay f seat o) g hold' seat ≡ record { line = l; writing = (row_of t seat).writing }
       here =
           let line : line_told (with_stay f seat o seat) (is_seat hold' seat) ≡ l = ap (λ x. line_told x (is_seat hold' seat)) (with_same f seat o) ∙ is in
-          let writing : writing_told (g seat) ≡ (row_of t seat).writing = sym (ap (λ (r : Row). r.writing) (row_shown s laws t n f g hold now h seat)) in
+          let writing : writing_told (g seat) ≡ (row_of t seat).writing = sym (ap (λ (r : Row). r.writing) (row_alike t seat low ∙ row_shown s laws t n f g hold now h seat)) in
           cc
 
       others : (q : ℕ) → q ≢ seat → told_rows (with_stay f seat o) g hold' q ≡ told_rows f g hold q
@@ -100,7 +101,7 @@ module _ (s : System) (laws : Laws s) (t : Table) (n : ℕ) (f g : Stays) (hold 
     where
       here : told_rows f (with_stay g seat o) hold seat ≡ record { line = (row_of t seat).line; writing = w }
       here =
-          let line : line_told (f seat) (is_seat hold seat) ≡ (row_of t seat).line = sym (ap (λ (r : Row). r.line) (row_shown s laws t n f g hold now h seat)) in
+          let line : line_told (f seat) (is_seat hold seat) ≡ (row_of t seat).line = sym (ap (λ (r : Row). r.line) (row_alike t seat low ∙ row_shown s laws t n f g hold now h seat)) in
           let writing : writing_told (with_stay g seat o seat) ≡ w = ap writing_told (with_same g seat o) ∙ is in
           cc
 
@@ -194,8 +195,8 @@ module _ (s : System) (laws : Laws s) (t : Table) (past : History) (h : Fits s t
       go (Some seat) e = absurd (omega (arith, (h.held seat e).0, (h.held seat e).1))
 
   -- the questions are answered as the history tells
-  pub same_questions : (call : Call) → first_no (questions (facts s t) call) ≡ first_no (questions (facts_told s past) call)
-  same_questions call = ap (λ (x : Facts). first_no (questions x call)) (facts_agree s laws t (seats past) (waiting s past) (standing s past) (holder past) (length past) h)
+  pub same_questions : (call : Call) → first_no (asked_of s t call) ≡ first_no (questions (facts_told s past) call)
+  same_questions call = asked_alike s t call ∙ ap (λ (x : Facts). first_no (questions x call)) (facts_agree s laws t (seats past) (waiting s past) (standing s past) (holder past) (length past) h)
 
   -- the seat that a start goes to has waited longest
   pub first_in_line : (facts_told s past).has_tail ≡ true → Longest (waiting s past) (waiting_seat (line_tail s t))
@@ -243,7 +244,7 @@ module _ (s : System) (laws : Laws s) (t : Table) (past : History) (h : Fits s t
       gave_start s laws t (seats past) (waiting s past) (standing s past) (holder past) (length past) h seat within.0 within.1 (is_seat_true (holder past) seat yes'.1.0)
   accepted (Write seat m) yes' =
       let within = in_seats (seats past) seat yes'.0 in
-      wrote s laws t (seats past) (waiting s past) (standing s past) (holder past) (length past) h seat within.0 within.1 m (standing_choice s t seat) (s.choice (labels_by_seat (seats past) (with_stay (standing s past) seat None))) (choice_stands s laws t (seats past) (waiting s past) (standing s past) (holder past) (length past) h seat) refl yes'.1.1.0
+      wrote s laws t (seats past) (waiting s past) (standing s past) (holder past) (length past) h seat within.0 within.1 m (standing_choice s t seat) (s.choice (labels_by_seat (seats past) (with_stay (standing s past) seat None))) (ap (λ ls. s.choice (labels_in ls)) (beside_alike t seat within.0) ∙ choice_stands s laws t (seats past) (waiting s past) (standing s past) (holder past) (length past) h seat) refl yes'.1.1.0
   accepted (Strike seat) yes' =
       let within = in_seats (seats past) seat yes'.0 in
       struck_out s laws t (seats past) (waiting s past) (standing s past) (holder past) (length past) h seat within.0 within.1
@@ -254,9 +255,9 @@ module _ (s : System) (laws : Laws s) (t : Table) (past : History) (h : Fits s t
 
   -- every call keeps them together
   pub step : (call : Call) → Fits s (next s t call) (record { call = call; reply = reply s t call } ∷ past)
-  step call = go (first_no (questions (facts s t) call)) refl
+  step call = go (first_no (asked_of s t call)) refl
     where
-      go : (o : Option Refusal) → first_no (questions (facts s t) call) ≡ o → Fits s (settled o t (after s t call)) (record { call = call; reply = replied o (answer s t call) } ∷ past)
+      go : (o : Option Refusal) → first_no (asked_of s t call) ≡ o → Fits s (settled o t (after s t call)) (record { call = call; reply = replied o (answer s t call) } ∷ past)
       go None e = accepted call (all_yes (questions (facts_told s past) call) (sym (same_questions call) ∙ e))
       go (Some refusal) e = stays_so
 

@@ -8,7 +8,8 @@ use Rattle.station.specs.declared.row.Line.{Line}
 use Rattle.station.specs.declared.row.Line.TheVariants.{Idle, Waiting, Holding}
 use Rattle.station.specs.declared.row.Writing.{Writing}
 use Rattle.station.specs.declared.row.Row.{Row}
-use Rattle.station.specs.Table.{Table, row_of, is_holding}
+use Rattle.station.specs.Table.{Table, is_holding}
+use Rattle.station.specs.Told.{row_at}
 use Rattle.station.specs.Questions.{Reply}
 use Rattle.lives.specs.History.{Moment, History, seats, holder, is_seat, Stay, Stays, line_change, register_change, everyone, others, waiting, standing}
 use Rattle.lives.specs.Intervals.{Intervals}
@@ -64,8 +65,8 @@ row_told s past seat = record {
 -- writing's label, and who holds the start, which is one seat at most.
 pub record Shows (s : System) (t : Table) (past : History) : Type 0 where
   pub seats_told : length t ≡ seats past
-  pub rows_told : (seat : ℕ) → row_of t seat ≡ row_told s past seat
-  pub one_holder : (a b : ℕ) → is_holding (row_of t a) ≡ true → is_holding (row_of t b) ≡ true → a ≡ b
+  pub rows_told : (seat : ℕ) → row_at t seat ≡ row_told s past seat
+  pub one_holder : (a b : ℕ) → is_holding (row_at t a) ≡ true → is_holding (row_at t b) ≡ true → a ≡ b
 
 pub record EveryLife (s : System) : Type 0 where
   pub sound : (calls : List Call) → Sound s (history s calls)

@@ -1,5 +1,7 @@
 //! Reads a trace from standard input, runs it over a station and prints a line for each call.
 
+#![tactic(auto)]
+
 use listing::listing;
 use std::io::{Read, Write};
 

@@ -1,5 +1,7 @@
 //! Runs stations over lists of calls, with all that is promised of a station's life.
 
+#![tactic(auto)]
+
 mod runs;
 mod serving;
 #[cfg(test)]

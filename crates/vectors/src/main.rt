@@ -1,5 +1,7 @@
 //! Replays every trace of data/ and compares the listing with the one that stands beside it.
 
+#![tactic(auto)]
+
 use listing::listing;
 use std::fs;
 

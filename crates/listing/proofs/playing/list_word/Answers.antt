@@ -15,7 +15,7 @@ returns g c =
     let o = call_of c.args.word in
     let answers = c.step-outcome.ensures.stepped.answers in
     record {
-      line = c.in-ok-put-line.ensures ∙ ap (λ (e : Entry). vec_items c.args.out.now ++ line_bytes (record { index = c.args.index; entry = e })) (c.entry-for-entry.ensures ∙ ap (entry_from o) answers ∙ entry_is s t c.args.index o);
+      line = c.in_ok-put_line.ensures ∙ ap (λ (e : Entry). vec_items c.args.out.now ++ line_bytes (record { index = c.args.index; entry = e })) (c.entry_for-entry.ensures ∙ ap (entry_from o) answers ∙ entry_is s t c.args.index o);
       goes_on = ap not (c.ends.ensures ∙ ap ends answers) ∙ goes_on_is s t c.args.index o;
       leaves = c.step-outcome.ensures.stepped.leaves;
       system = c.step-outcome.ensures.system;

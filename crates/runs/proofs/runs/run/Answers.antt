@@ -6,4 +6,4 @@ pub returns : goal.returns
 returns g c =
     let meaning = g.S.LabelSystem.meaning c.args.system in
     let laws = g.met.S.LabelSystem.shows c.args.system in
-    record { replies = c.life-of.ensures; promised = promised meaning meaning laws laws }
+    record { replies = c.life_of.ensures; promised = promised meaning meaning laws laws }
