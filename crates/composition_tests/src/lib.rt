@@ -1,4 +1,6 @@
 //! Tests of compositions and piles.
 
+#![tactic(auto)]
+
 #[cfg(test)]
 mod tests;

@@ -1,23 +1,10 @@
+use crate::tests::refused;
 use labels::LabelSystem;
 use made_up::Skipping;
 use piles::Pile1;
 use plain::{Counter, Heptad};
-use station::{Answer, Call, Reading, Reason, Refusal, Started, Station};
-use std::process::Abort;
+use station::{Answer, Call, Reading, Reason, Started, Station};
 use std::test::Fail;
-
-fn refused<T>(
-    rt: &impl Abort,
-    reply: Result<T, Refusal>,
-    reason: Reason,
-    seat: u8,
-) -> Result<(), Fail>
-where
-    T: Drop,
-{
-    assert_eq!(rt; reply.err(), Some(Refusal { reason, seat }));
-    Ok(())
-}
 
 #[test]
 fn opening(rt: HostRuntime) -> Result<(), Fail> {
@@ -71,9 +58,8 @@ fn first_come_first_served(rt: HostRuntime) -> Result<(), Fail> {
     refused(&rt, station.start(), Reason::StartTaken, 0)?;
     station.leave(1)?;
     refused(&rt, station.leave(1), Reason::NotWaiting, 1)?;
-    refused(&rt, station.start(), Reason::StartTaken, 0).note(
-        "nobody waits, but that is asked second",
-    )?;
+    // nobody waits, but that is asked second
+    refused(&rt, station.start(), Reason::StartTaken, 0)?;
     refused(&rt, station.finish(1), Reason::NotHolding, 1)?;
     station.finish(2)?;
     refused(&rt, station.start(), Reason::NobodyWaits, 0)
@@ -88,9 +74,8 @@ fn who_waits_longer(rt: HostRuntime) -> Result<(), Fail> {
     assert_eq!(rt; station.earlier(2, 1)?, true);
     assert_eq!(rt; station.earlier(1, 2)?, false);
     assert_eq!(rt; station.earlier(1, 1)?, false);
-    refused(&rt, station.earlier(3, 4), Reason::NoSuchSeat, 4).note(
-        "both seats exist before either is asked whether it waits",
-    )?;
+    // both seats exist before either is asked whether it waits
+    refused(&rt, station.earlier(3, 4), Reason::NoSuchSeat, 4)?;
     refused(&rt, station.earlier(3, 1), Reason::NotWaiting, 3)?;
     refused(&rt, station.earlier(2, 3), Reason::NotWaiting, 3)
 }
@@ -104,9 +89,8 @@ fn which_writing_is_later(rt: HostRuntime) -> Result<(), Fail> {
     assert_eq!(rt; station.newer(1, 2)?, true);
     assert_eq!(rt; station.newer(2, 1)?, false);
     assert_eq!(rt; station.newer(1, 1)?, false);
-    refused(&rt, station.newer(3, 4), Reason::NoSuchSeat, 4).note(
-        "both seats exist before either is asked for its writing",
-    )?;
+    // both seats exist before either is asked for its writing
+    refused(&rt, station.newer(3, 4), Reason::NoSuchSeat, 4)?;
     refused(&rt, station.newer(3, 1), Reason::NoWriting, 3)?;
     refused(&rt, station.newer(2, 3), Reason::NoWriting, 3)
 }
@@ -190,9 +174,8 @@ fn labels_in_the_line_are_listed_by_rising_seat(rt: HostRuntime) -> Result<(), F
         station.join(3)?;
     }
     station.leave(1)?;
-    refused(&rt, station.join(1), Reason::NoLabelLeft, 1).note(
-        "listed are 97, 98; listed as 98, 97 they leave 99",
-    )
+    // listed are 97, 98; listed as 98, 97 they leave 99
+    refused(&rt, station.join(1), Reason::NoLabelLeft, 1)
 }
 
 #[test]

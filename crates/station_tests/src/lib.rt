@@ -1,5 +1,7 @@
 //! Tests of the station.
 
+#![tactic(auto)]
+
 #[cfg(test)]
 mod by_theme;
 #[cfg(test)]

@@ -6,7 +6,7 @@ use station::{Reason, Refusal, Station};
 use std::process::Abort;
 use std::test::Fail;
 
-fn refused<T>(
+pub(crate) fn refused<T>(
     rt: &impl Abort,
     reply: Result<T, Refusal>,
     reason: Reason,
@@ -52,9 +52,8 @@ fn first_come_first_served(rt: HostRuntime) -> Result<(), Fail> {
     assert_eq!(rt; station.earlier(2, 1).ok(), Some(true));
     assert_eq!(rt; station.earlier(1, 2).ok(), Some(false));
     assert_eq!(rt; station.earlier(1, 1).ok(), Some(false));
-    refused(&rt, station.earlier(3, 4), Reason::NoSuchSeat, 4).note(
-        "both seats exist before either is asked whether it waits",
-    )?;
+    // both seats exist before either is asked whether it waits
+    refused(&rt, station.earlier(3, 4), Reason::NoSuchSeat, 4)?;
     refused(&rt, station.earlier(2, 3), Reason::NotWaiting, 3)?;
     assert!(rt; station.write(3, 7).is_ok());
     let Ok(started) = station.start() else {
