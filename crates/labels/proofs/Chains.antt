@@ -1,6 +1,6 @@
--- A plain system whose beats is one_way and whose choice beats every entry shows the laws.
+-- A plain system whose beats is one-way and whose choice beats every entry shows the laws.
 use Rattle.std.proofs.Common.{◌≡◌, ℕ, zero, suc, ◌<◌, ◌≤◌, Bool, true, ◌&&◌, ltb, List, [], ◌∷◌, ◌++◌, length, get_or, Some, None, filter, Option, sym, refl, ap, subst, inl, inr, arith}
-use Rattle.std.specs.List.{remove, AllByRecursion as All}
+use Rattle.std.specs.List.{remove, AllByRecursion}
 use Rattle.std.specs.List.Sorted.{IsPermutation}
 use Rattle.std.proofs.lemmas.Bool.{cases_eq, cond-true, cond-false, cond_both, cases_lt, and_parts, ltb-true, lt-ltb, le-ltb}
 use Rattle.std.proofs.lemmas.List.{length-append}
@@ -15,7 +15,7 @@ use Rattle.labels.proofs.Exact.{some_or_none}
 -- each beats all before it, step by step
 abbrev Up : (ℕ → ℕ → Bool) → List ℕ → Type 0
 Up beats [] = Unit {0}
-Up beats (x ∷ xs) = All (λ y. beats y x ≡ true) xs × Up beats xs
+Up beats (x ∷ xs) = AllByRecursion (λ y. beats y x ≡ true) xs × Up beats xs
 
 up_from_climbs : (beats : ℕ → ℕ → Bool) (l : List ℕ) → Climbs beats l → Up beats l
 up_from_climbs beats [] h = tt
@@ -35,7 +35,7 @@ up_kept beats p [] h = tt
 up_kept beats p (x ∷ xs) h =
     cond_both (p x) (x ∷ filter p xs) (filter p xs) (Up beats) (λ _. (all_kept_by p (λ y. beats y x ≡ true) xs h.0, up_kept beats p xs h.1)) (λ _. up_kept beats p xs h.1)
 
-up_push : (beats : ℕ → ℕ → Bool) (l : List ℕ) (x : ℕ) → Up beats l → All (λ y. beats x y ≡ true) l → Up beats (l ++ x ∷ [])
+up_push : (beats : ℕ → ℕ → Bool) (l : List ℕ) (x : ℕ) → Up beats l → AllByRecursion (λ y. beats x y ≡ true) l → Up beats (l ++ x ∷ [])
 up_push beats [] x h a = (tt, tt)
 up_push beats (y ∷ ys) x h a = (All-push (λ z. beats z y ≡ true) ys x h.0 a.0, up_push beats ys x h.1 a.1)
 
@@ -96,7 +96,7 @@ chain_kept order count beats k l w h =
 pub record Given (order count : ℕ) (beats : ℕ → ℕ → Bool) (l : List ℕ) (x : ℕ) : Type 0 where
   pub room : length l < order
   pub label : x < count
-  pub beats_all : All (λ y. beats x y ≡ true) l
+  pub beats_all : AllByRecursion (λ y. beats x y ≡ true) l
 
 -- what a plain system owes
 pub record Duties (order count : ℕ) (beats : ℕ → ℕ → Bool) (choice : List ℕ → Option ℕ) (endless : Bool) : Type 0 where
@@ -104,7 +104,7 @@ pub record Duties (order count : ℕ) (beats : ℕ → ℕ → Bool) (choice : L
   pub one_way : (a b : ℕ) → a < count → b < count → beats a b ≡ true → beats b a ≡ true → ⊥
   pub chosen : (l : List ℕ) (x : ℕ) → choice l ≡ Some x → Given order count (bounded count beats) l x
   -- a list of labels with room left always has a choice
-  pub some : endless ≡ true → (l : List ℕ) → length l < order → All (λ y. y < count) l → choice l ≡ None → ⊥
+  pub some : endless ≡ true → (l : List ℕ) → length l < order → AllByRecursion (λ y. y < count) l → choice l ≡ None → ⊥
 
 module _ (order count : ℕ) (beats : ℕ → ℕ → Bool) (choice : List ℕ → Option ℕ) (endless : Bool) (s : Duties order count beats choice endless) where
   abbrev bounds : ℕ → ℕ → Bool

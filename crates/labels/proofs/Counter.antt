@@ -1,6 +1,6 @@
 -- A counter chooses the least label that beats what is listed, which is just above it, and shows the laws.
 use Rattle.std.proofs.Common.{◌≡◌, ℕ, suc, ◌+◌, ◌^◌, ◌<◌, ◌≤◌, max, Bool, true, false, cond, ◌&&◌, ltb, List, [], ◌∷◌, length, get_or, IfSome, Some, None, Option, sym, refl, ap, ◌∙◌, subst, inl, inr, arith, MatchOption}
-use Rattle.std.specs.List.{AllByRecursion as All}
+use Rattle.std.specs.List.{AllByRecursion}
 use Rattle.std.proofs.lemmas.Bool.{cases_lt, cond-true, cond_both, and_parts, and_from, ltb-true, ltb-false, lt-ltb}
 use Rattle.std.proofs.ByRecursion.{All-weaker, All-get_or}
 use Rattle.labels.specs.System.{Laws}
@@ -10,12 +10,12 @@ use Rattle.labels.proofs.Walks.{room_and_labels}
 use Rattle.labels.proofs.Exact.{exactly, nothing_without_room}
 use Rattle.labels.proofs.Chains.{given_from_least, lawful_plain}
 
-pub largest_above : (l : List ℕ) → All (λ y. y ≤ largest l) l
+pub largest_above : (l : List ℕ) → AllByRecursion (λ y. y ≤ largest l) l
 largest_above [] = tt
 largest_above (x ∷ xs) = (omega arith, All-weaker (λ y. y ≤ largest xs) (λ y. y ≤ max x (largest xs)) (λ y h. omega arith) xs (largest_above xs))
 
 -- a number above every entry is above the largest, unless nothing is listed
-over_largest : (z x : ℕ) (xs : List ℕ) → All (λ y. y < z) (x ∷ xs) → largest (x ∷ xs) < z
+over_largest : (z x : ℕ) (xs : List ℕ) → AllByRecursion (λ y. y < z) (x ∷ xs) → largest (x ∷ xs) < z
 over_largest z x [] h = omega (arith, h.0)
 over_largest z x (y ∷ ys) h = omega (arith, h.0, over_largest z y ys h.1)
 
@@ -26,7 +26,7 @@ module _ (order ceiling : ℕ) where
   pub over_from : (a b : ℕ) → a < ceiling → b < a → over a b ≡ true
   over_from a b ha lt = and_from (ltb a ceiling && ltb b ceiling) (ltb b a) (and_from (ltb a ceiling) (ltb b ceiling) (lt-ltb a ceiling ha) (lt-ltb b ceiling (omega arith))) (lt-ltb b a lt)
 
-  above_from : (z : ℕ) (l : List ℕ) → BeatsAll (counter order ceiling) l z → All (λ y. y < z) l
+  above_from : (z : ℕ) (l : List ℕ) → BeatsAll (counter order ceiling) l z → AllByRecursion (λ y. y < z) l
   above_from z l h = All-weaker (λ y. over z y ≡ true) (λ y. y < z) (λ y e. ltb-true y z (and_parts (ltb z ceiling && ltb y ceiling) (ltb y z) e).1) l h
 
   pub counter_least : 1 ≤ ceiling → (l : List ℕ) → ChoosesLeast (counter order ceiling) l (counter_choice order ceiling l)
@@ -34,7 +34,7 @@ module _ (order ceiling : ℕ) where
       exactly (counter order ceiling) l (counter_choice order ceiling l)
       (cond_both (takes_one_more order ceiling l) (past ceiling l) None (λ r. MatchOption r (NothingChosen (counter order ceiling) l) (LeastChosen (counter order ceiling) l)) (λ t. beyond l (room_and_labels order ceiling l t)) (nothing_without_room (counter order ceiling) l))
     where
-      beyond : (l : List ℕ) → (length l < order) × All (λ y. y < ceiling) l → MatchOption (past ceiling l) (NothingChosen (counter order ceiling) l) (LeastChosen (counter order ceiling) l)
+      beyond : (l : List ℕ) → (length l < order) × AllByRecursion (λ y. y < ceiling) l → MatchOption (past ceiling l) (NothingChosen (counter order ceiling) l) (LeastChosen (counter order ceiling) l)
       beyond [] free = record { room = free.0; labels = tt; label = omega arith; beats_all = tt; least = λ z lt _. omega arith }
       beyond (x ∷ xs) free =
           let top : ℕ = largest (x ∷ xs) + 1 in

@@ -1,6 +1,6 @@
 -- The heptad chooses the least label that beats what is listed, and shows the laws.
 use Rattle.std.proofs.Common.{◌≡◌, ℕ, zero, suc, ◌+◌, ◌-◌, ◌%◌, ◌<◌, ◌≤◌, Bool, true, false, cond, not, ◌&&◌, ◌||◌, eqb, ltb, ◌⊎◌, ◌↔◌, List, [], ◌∷◌, length, is_some, Some, None, Option, sym, refl, ap, ◌∙◌, inl, inr, arith, lit≤, MatchOption}
-use Rattle.std.specs.List.{AllByRecursion as All}
+use Rattle.std.specs.List.{AllByRecursion}
 use Rattle.std.proofs.lemmas.Bool.{cases_eq, cond-true, cond-false, cond_both, both_ways, and_parts, and_from, not-true, ltb-true, lt-ltb, eqb-true, eq-eqb, or_cases, or_left, or_right}
 use Rattle.labels.specs.System.{Laws}
 use Rattle.labels.specs.Least.{LeastChosen, NothingChosen, no_winner, ChoosesLeast, AheadBySquare}
@@ -73,7 +73,7 @@ heptad_least l =
     exactly heptad l (heptad_choice l)
     (cond_both (takes_one_more 3 7 l) (least_from beats7 l 7 0) None (λ r. MatchOption r (NothingChosen heptad l) (LeastChosen heptad l)) (λ t. found (least_from beats7 l 7 0) (room_and_labels 3 7 l t) (least_from_right beats7 l 7 0)) (nothing_without_room heptad l))
   where
-    found : (r : Option ℕ) → (length l < 3) × All (λ y. y < 7) l → MatchOption r ((z : ℕ) → 0 ≤ z → z < 0 + 7 → beats_all beats7 z l ≡ true → ⊥) (λ x. (x < 0 + 7) × (beats_all beats7 x l ≡ true) × ((z : ℕ) → 0 ≤ z → z < x → beats_all beats7 z l ≡ true → ⊥)) → MatchOption r (NothingChosen heptad l) (LeastChosen heptad l)
+    found : (r : Option ℕ) → (length l < 3) × AllByRecursion (λ y. y < 7) l → MatchOption r ((z : ℕ) → 0 ≤ z → z < 0 + 7 → beats_all beats7 z l ≡ true → ⊥) (λ x. (x < 0 + 7) × (beats_all beats7 x l ≡ true) × ((z : ℕ) → 0 ≤ z → z < x → beats_all beats7 z l ≡ true → ⊥)) → MatchOption r (NothingChosen heptad l) (LeastChosen heptad l)
     found None free h = no_winner (λ z lt b. h z (omega arith) (omega arith) (every_from_all (beats7 z) l b))
     found (Some x) free h = record {
       room = free.0;
@@ -106,13 +106,13 @@ heptad_laws = lawful_plain 3 7 paley heptad_choice true (record {
   some = some;
 })
   where
-    open_choice : (l : List ℕ) → length l < 3 → All (λ y. y < 7) l → is_some (least_from beats7 l 7 0) ≡ true
+    open_choice : (l : List ℕ) → length l < 3 → AllByRecursion (λ y. y < 7) l → is_some (least_from beats7 l 7 0) ≡ true
     open_choice [] lt h = refl
     open_choice (a ∷ []) lt h = up_to_true (λ u. is_some (least_from beats7 (u ∷ []) 7 0)) 7 refl a h.0
     open_choice (a ∷ b ∷ []) lt h = pairs_true (λ u v. is_some (least_from beats7 (u ∷ v ∷ []) 7 0)) refl a b h.0 h.1.0
     open_choice (a ∷ b ∷ c ∷ l) lt h = absurd (omega arith)
 
-    some : true ≡ true → (l : List ℕ) → length l < 3 → All (λ y. y < 7) l → heptad_choice l ≡ None → ⊥
+    some : true ≡ true → (l : List ℕ) → length l < 3 → AllByRecursion (λ y. y < 7) l → heptad_choice l ≡ None → ⊥
     some _ l lt h n =
         let none : least_from beats7 l 7 0 ≡ None = sym (cond-true (takes_one_more 3 7 l) (least_from beats7 l 7 0) None (takes_from 3 7 l lt h)) ∙ n in
         both_ways (is_some (least_from beats7 l 7 0)) (ap is_some none) (open_choice l lt h)

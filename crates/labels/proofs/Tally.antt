@@ -1,6 +1,6 @@
 -- How often a label stands in a list, and what that says of removals and of other orders.
 use Rattle.std.proofs.Common.{◌≡◌, ℕ, zero, suc, ◌+◌, ◌<◌, ◌≤◌, Bool, true, false, cond, eqb, List, [], ◌∷◌, ◌++◌, map, length, get_or, sum_by, filter, sym, refl, ap, ◌∙◌, subst, inl, inr, arith}
-use Rattle.std.specs.List.{remove, AllByRecursion as All}
+use Rattle.std.specs.List.{remove, AllByRecursion}
 use Rattle.std.specs.List.Sorted.{IsPermutation}
 use Rattle.std.proofs.lemmas.List.Sums.{sum_by-cons}
 use Rattle.std.proofs.lemmas.List.Sorted.{sum_by-IsPermutation, length_permutation, IsPermutation-refl, IsPermutation-trans, IsPermutation-cons, IsPermutation-swap}
@@ -121,10 +121,10 @@ module _ (P : List ℕ → Type 0) (fewer : (l : List ℕ) (k : ℕ) → k < len
   pub part_kept : (m l : List ℕ) → Within m l → P l → P m
   part_kept m l w p = let r = rest_of m l w in front m r.0 (moved l (m ++ r.0) r.1 p)
 
-pub all_tally : (P : ℕ → Type 0) (l : List ℕ) (x : ℕ) → All P l → 0 < tally x l → P x
+pub all_tally : (P : ℕ → Type 0) (l : List ℕ) (x : ℕ) → AllByRecursion P l → 0 < tally x l → P x
 all_tally P l x all h = let p = place_of x l h in subst P p.2 (All-get_or P l p.0 0 p.1 all)
 
-pub tally_all : (P : ℕ → Type 0) (l : List ℕ) → ((x : ℕ) → 0 < tally x l → P x) → All P l
+pub tally_all : (P : ℕ → Type 0) (l : List ℕ) → ((x : ℕ) → 0 < tally x l → P x) → AllByRecursion P l
 tally_all P l each = All-from_get_or P l 0 (λ k h. each (get_or l k 0) (tally_at l k h))
 
 pub nil_from_tally : (l : List ℕ) → ((x : ℕ) → tally x l ≡ 0) → l ≡ []

@@ -1,6 +1,6 @@
 -- The triangle chooses the least label that beats what is listed, and shows the laws.
 use Rattle.std.proofs.Common.{◌≡◌, ℕ, ◌<◌, Bool, true, ◌&&◌, eqb, ltb, List, [], ◌∷◌, length, Some, None, sym, refl, ◌∙◌, arith, lit<, lit≤, MatchOption}
-use Rattle.std.specs.List.{AllByRecursion as All}
+use Rattle.std.specs.List.{AllByRecursion}
 use Rattle.std.proofs.lemmas.Bool.{eqb-true, eq-eqb, cond-true, cond_both, and_parts, and_from, ltb-true, ltb-false, lt-ltb}
 use Rattle.labels.specs.System.{Laws}
 use Rattle.labels.specs.Least.{LeastChosen, NothingChosen, no_room, no_label, ChoosesLeast}
@@ -44,7 +44,7 @@ triangle_laws = lawful_plain 2 3 ring triangle_choice true (record {
   some = some;
 })
   where
-    some : true ≡ true → (l : List ℕ) → length l < 2 → All (λ y. y < 3) l → triangle_choice l ≡ None → ⊥
+    some : true ≡ true → (l : List ℕ) → length l < 2 → AllByRecursion (λ y. y < 3) l → triangle_choice l ≡ None → ⊥
     some _ [] lt h n = none_is_no_label 0 (sym n)
     some _ (b ∷ []) lt h n = none_is_no_label (next_in_ring b) (sym n ∙ cond-true (ltb b 3) (Some (next_in_ring b)) None (lt-ltb b 3 h.0))
     some _ (b ∷ c ∷ l) lt h n = omega arith

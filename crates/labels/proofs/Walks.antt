@@ -1,6 +1,6 @@
 -- Tests of every entry of a list, as a walk over the list makes them.
 use Rattle.std.proofs.Common.{◌≡◌, ℕ, suc, ◌+◌, ◌<◌, ◌≤◌, Bool, true, false, ◌&&◌, ltb, List, [], ◌∷◌, length, get_or, drop, sym, refl, ap, ◌∙◌, inl, inr, arith}
-use Rattle.std.specs.List.{AllByRecursion as All}
+use Rattle.std.specs.List.{AllByRecursion}
 use Rattle.std.proofs.lemmas.List.{at_drop_more}
 use Rattle.std.proofs.ByRecursion.{All-weaker, All-get_or, All-from_get_or}
 use Rattle.std.proofs.lemmas.Bool.{lt-ltb, ltb-true, ltb-false, and_parts, and_from, cases_Bool, both_ways}
@@ -14,11 +14,11 @@ module _ (test : ℕ → Bool) (xs : List ℕ) (i : ℕ) (within : i < length xs
   pub every_settled : test (get_or xs i 0) ≡ false → every test (drop i xs) ≡ false
   every_settled f = at_drop_more (every test) xs i 0 within ∙ ap (λ b. b && every test (drop (i + 1) xs)) f
 
-pub all_from_every : (test : ℕ → Bool) (l : List ℕ) → every test l ≡ true → All (λ x. test x ≡ true) l
+pub all_from_every : (test : ℕ → Bool) (l : List ℕ) → every test l ≡ true → AllByRecursion (λ x. test x ≡ true) l
 all_from_every test [] e = tt
 all_from_every test (x ∷ xs) e = let p = and_parts (test x) (every test xs) e in (p.0, all_from_every test xs p.1)
 
-pub every_from_all : (test : ℕ → Bool) (l : List ℕ) → All (λ x. test x ≡ true) l → every test l ≡ true
+pub every_from_all : (test : ℕ → Bool) (l : List ℕ) → AllByRecursion (λ x. test x ≡ true) l → every test l ≡ true
 every_from_all test [] h = refl
 every_from_all test (x ∷ xs) h = and_from (test x) (every test xs) h.0 (every_from_all test xs h.1)
 
@@ -43,20 +43,20 @@ every_fails_at test (x ∷ xs) e =
       | inr f ↦ (0, omega arith, f)
     ]
 
-pub labels_from_below : (n : ℕ) (l : List ℕ) → all_below n l ≡ true → All (λ x. x < n) l
+pub labels_from_below : (n : ℕ) (l : List ℕ) → all_below n l ≡ true → AllByRecursion (λ x. x < n) l
 labels_from_below n l e = All-weaker _ (λ x. x < n) (λ x. ltb-true x n) l (all_from_every _ l e)
 
-pub below_from_labels : (n : ℕ) (l : List ℕ) → All (λ x. x < n) l → all_below n l ≡ true
+pub below_from_labels : (n : ℕ) (l : List ℕ) → AllByRecursion (λ x. x < n) l → all_below n l ≡ true
 below_from_labels n l h = every_from_all _ l (All-weaker (λ x. x < n) _ (λ x. lt-ltb x n) l h)
 
 pub no_label_at : (n : ℕ) (l : List ℕ) → all_below n l ≡ false → (k : ℕ) × (k < length l) × (n ≤ get_or l k 0)
 no_label_at n l e = let r = every_fails_at _ l e in (r.0, r.1, ltb-false (get_or l r.0 0) n r.2)
 
 -- a list that takes one more
-pub room_and_labels : (order count : ℕ) (l : List ℕ) → takes_one_more order count l ≡ true → (length l < order) × All (λ x. x < count) l
+pub room_and_labels : (order count : ℕ) (l : List ℕ) → takes_one_more order count l ≡ true → (length l < order) × AllByRecursion (λ x. x < count) l
 room_and_labels order count l t =
     let p = and_parts (ltb (length l) order) (all_below count l) t in
     (ltb-true (length l) order p.0, labels_from_below count l p.1)
 
-pub takes_from : (order count : ℕ) (l : List ℕ) → length l < order → All (λ x. x < count) l → takes_one_more order count l ≡ true
+pub takes_from : (order count : ℕ) (l : List ℕ) → length l < order → AllByRecursion (λ x. x < count) l → takes_one_more order count l ≡ true
 takes_from order count l room labels = and_from (ltb (length l) order) (all_below count l) (lt-ltb (length l) order room) (below_from_labels count l labels)

@@ -1,16 +1,16 @@
 -- What the plain systems' choices and the heptad's beats amount to, above the way in which they are computed.
 use Rattle.std.specs.Prelude.{◌≡◌, ℕ, ◌+◌, ◌%◌, ◌<◌, ◌≤◌, true, ◌⊎◌, ◌↔◌, List, length, Some, None, Option, slice_index}
-use Rattle.std.specs.List.{AllByRecursion as All}
+use Rattle.std.specs.List.{AllByRecursion}
 use Rattle.labels.specs.System.{System}
 
 -- x beats every entry
 abbrev pub BeatsAll : System → List ℕ → ℕ → Type 0
-BeatsAll s l x = All (λ y. s.beats x y ≡ true) l
+BeatsAll s l x = AllByRecursion (λ y. s.beats x y ≡ true) l
 
 -- l leaves room for one more and holds only labels, and x is the least label that beats every entry
 pub record LeastChosen (s : System) (l : List ℕ) (x : ℕ) : Type 0 where
   pub room : length l < s.order
-  pub labels : All (λ y. y < s.count) l
+  pub labels : AllByRecursion (λ y. y < s.count) l
   pub label : x < s.count
   pub beats_all : BeatsAll s l x
   pub least : (z : ℕ) → z < x → BeatsAll s l z → ⊥
@@ -28,8 +28,8 @@ pub record ChoosesLeast (s : System) (l : List ℕ) (r : Option ℕ) : Type 0 wh
 
 -- x is above every entry, and nothing smaller is
 pub record JustAbove (l : List ℕ) (x : ℕ) : Type 0 where
-  pub above : All (λ y. y < x) l
-  pub least : (z : ℕ) → All (λ y. y < z) l → x ≤ z
+  pub above : AllByRecursion (λ y. y < x) l
+  pub least : (z : ℕ) → AllByRecursion (λ y. y < z) l → x ≤ z
 
 -- m is listed, and no entry is larger
 pub record IsLargest (l : List ℕ) (m : ℕ) : Type 0 where

@@ -1,6 +1,6 @@
 -- The three plain systems: triangle, heptad and counter.
 use Rattle.std.specs.Prelude.{◌≡◌, ℕ, zero, suc, ◌+◌, ◌-◌, ◌%◌, ◌<◌, ◌≤◌, max, Bool, true, false, cond, ◌&&◌, ◌||◌, ltb, List, [], ◌∷◌, length, Some, None, Option, ◌==◌, ◌≢◌, nat_eq, nat_lt, slice_index}
-use Rattle.std.specs.List.{AllByRecursion as All}
+use Rattle.std.specs.List.{AllByRecursion}
 use Rattle.std.specs.List.Sorted.{IsPermutation}
 use Rattle.labels.specs.System.{System}
 
@@ -13,7 +13,7 @@ Distinct l = (i j : ℕ) → i < j → j < length l → slice_index l i ≢ slic
 
 -- A chain: distinct labels below the count that can be put in an order in which each beats all before it.
 pub record Chain (count : ℕ) (beats : ℕ → ℕ → Bool) (l : List ℕ) : Type 0 where
-  pub labels : All (λ x. x < count) l
+  pub labels : AllByRecursion (λ x. x < count) l
   pub distinct : Distinct l
   pub line : List ℕ
   pub same : IsPermutation l line

@@ -1,6 +1,6 @@
 -- What a label system means, and the laws that its meaning shows.
 use Rattle.std.specs.Prelude.{◌≡◌, ℕ, ◌^◌, ◌<◌, ◌≤◌, Bool, true, List, [], ◌∷◌, ◌++◌, length, Some, None, Option, ◌≢◌, slice_index}
-use Rattle.std.specs.List.{remove, AllByRecursion as All}
+use Rattle.std.specs.List.{remove, AllByRecursion}
 use Rattle.std.specs.List.Sorted.{IsPermutation}
 
 -- A label system gives labels, whole numbers, to parties that come and go. Of the labels held together each tells
@@ -39,11 +39,11 @@ pub record Laws (s : System) : Type 0 where
   pub reordered_lawful : (l m : List ℕ) → IsPermutation l m → s.lawful l → s.lawful m
   -- a lawful list has at most order entries, all of them labels; unless it is empty, one place leads all others
   pub lawful_short : (l : List ℕ) → s.lawful l → length l ≤ s.order
-  pub lawful_labels : (l : List ℕ) → s.lawful l → All (λ x. x < s.count) l
+  pub lawful_labels : (l : List ℕ) → s.lawful l → AllByRecursion (λ x. x < s.count) l
   pub lawful_led : (l : List ℕ) → s.lawful l → 0 < length l → (k : ℕ) × LeadsAt s.beats l k
   -- what is chosen is a label; beside a lawful list it beats each entry, and the list with it added is lawful
   pub chosen_label : (l : List ℕ) (x : ℕ) → s.choice l ≡ Some x → x < s.count
-  pub chosen_beats : (l : List ℕ) (x : ℕ) → s.choice l ≡ Some x → s.lawful l → All (λ y. s.beats x y ≡ true) l
+  pub chosen_beats : (l : List ℕ) (x : ℕ) → s.choice l ≡ Some x → s.lawful l → AllByRecursion (λ y. s.beats x y ≡ true) l
   pub chosen_lawful : (l : List ℕ) (x : ℕ) → s.choice l ≡ Some x → s.lawful l → s.lawful (l ++ x ∷ [])
   -- nothing is chosen beside order or more entries; an endless system chooses beside every shorter lawful list
   pub full_none : (l : List ℕ) → s.order ≤ length l → s.choice l ≡ None

@@ -10,9 +10,7 @@ use Rattle.lives.specs.Lives.{replies}
 use Rattle.lives.specs.Promises.{EveryLife}
 use Rattle.trace.specs.declared.fault.WordFault.TheVariants.{NotACall, NotAHead}
 use Rattle.trace.specs.Bytes.{from_bytes}
-use Rattle.trace.specs.Faults.{fault_number}
 use Rattle.trace.specs.Words.{call_of, pile_in_head}
-use Rattle.lines.specs.declared.entry.Line.{Line}
 use Rattle.lines.specs.declared.entry.Entry.TheVariants.{Fault}
 use Rattle.lines.specs.Replies.{entry_for}
 use Rattle.lines.specs.Lines.{line_bytes}

@@ -1,14 +1,14 @@
 -- The seat that a search finds among healthy stays is the first or the last that began.
-use Rattle.std.proofs.Common.{◌≡◌, ℕ, suc, ◌-◌, ◌<◌, ◌≤◌, Bool, true, false, ◌≢◌, List, length, get_or, Some, None, Option, sym, refl, ap, ◌∙◌, subst, inl, inr, arith}
+use Rattle.std.proofs.Common.{◌≡◌, ℕ, suc, ◌-◌, ◌<◌, Bool, true, false, ◌≢◌, get_or, Some, None, Option, sym, refl, ap, ◌∙◌, subst, inl, inr, arith}
 use Rattle.std.proofs.lemmas.Bool.{cases_order}
 use Rattle.labels.specs.System.{System, Laws}
 use Rattle.labels.proofs.Tally.{place_of}
-use Rattle.search.specs.Search.{labels_in, head_of, tail_of, LeadsFrom, FoundWhereLawful}
+use Rattle.search.specs.Search.{head_of, tail_of, LeadsFrom, FoundWhereLawful}
 use Rattle.search.proofs.Tops.{finds, head_where_lawful, tail_where_lawful}
 use Rattle.lives.specs.History.{Stay, Stays, stay_label, entries, labels_by_seat}
 use Rattle.lives.specs.Answers.{Nobody}
 use Rattle.lives.proofs.Listed.{is_listed}
-use Rattle.lives.proofs.Stays.{none_some, entry_at, entry_some}
+use Rattle.lives.proofs.Stays.{entry_at, entry_some}
 use Rattle.lives.proofs.Healthy.{Healthy}
 
 module _ (s : System) (laws : Laws s) (n : ℕ) (f : Stays) (now : ℕ) (h : Healthy s n f now) where

@@ -1,15 +1,15 @@
 -- Stays whose labels are in order and lawful stay so as they come and go. Here the laws of label systems are used.
-use Rattle.std.proofs.Common.{◌≡◌, ℕ, suc, ◌-◌, ◌<◌, ◌≤◌, true, false, ◌≢◌, List, [], ◌∷◌, ◌++◌, length, get_or, set, Some, None, Option, sym, refl, ap, ◌∙◌, subst, inl, inr, arith}
-use Rattle.std.proofs.lemmas.Bool.{cases_eq, cases_Bool}
+use Rattle.std.proofs.Common.{◌≡◌, ℕ, suc, ◌-◌, ◌<◌, ◌≤◌, true, false, [], ◌∷◌, ◌++◌, length, set, Some, None, Option, sym, refl, ap, ◌∙◌, subst, inl, inr, arith}
+use Rattle.std.proofs.lemmas.Bool.{cases_Bool}
 use Rattle.labels.specs.System.{System, Laws}
-use Rattle.labels.proofs.Tally.{Within, part_kept, all_tally, shuffled_from_tally}
+use Rattle.labels.proofs.Tally.{part_kept, all_tally, shuffled_from_tally}
 use Rattle.labels.proofs.Leaders.{tally_added}
 use Rattle.search.specs.Search.{labels_in}
 use Rattle.lives.specs.History.{Stay, Stays, stay_label, entries, labels_by_seat, with_stay}
 use Rattle.lives.specs.Promises.{InOrder}
 use Rattle.lives.proofs.BySeat.{length_by_seat}
 use Rattle.lives.proofs.Listed.{one_less, one_more, is_listed, fewer_listed, none_listed}
-use Rattle.lives.proofs.Stays.{none_some, with_same, with_other, without_none, without_some, with_some, entries_with, entry_at, entry_none}
+use Rattle.lives.proofs.Stays.{none_some, without_some, with_some, entries_with, entry_at, entry_none}
 
 -- the stays of n seats, all begun before now
 pub record Healthy (s : System) (n : ℕ) (f : Stays) (now : ℕ) : Type 0 where

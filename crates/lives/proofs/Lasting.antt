@@ -1,7 +1,7 @@
 -- Stays as they are told moment by moment are the intervals from their beginnings on.
-use Rattle.std.proofs.Common.{◌≡◌, ℕ, Bool, true, false, not, eqb, List, [], ◌∷◌, ◌++◌, length, Some, None, Option, sym, refl, ap, ◌∙◌, inl, inr, arith}
-use Rattle.std.proofs.lemmas.Bool.{cases_eq, eqb-true, eqb-false, ne_eqb, not-true, not_from_false}
-use Rattle.std.specs.List.{AllByRecursion as All}
+use Rattle.std.proofs.Common.{◌≡◌, ℕ, true, eqb, [], ◌∷◌, ◌++◌, length, Some, None, Option, sym, refl, ap, ◌∙◌, inl, inr}
+use Rattle.std.proofs.lemmas.Bool.{cases_eq, eqb-false, ne_eqb, not-true, not_from_false}
+use Rattle.std.specs.List.{AllByRecursion}
 use Rattle.labels.specs.System.{System}
 use Rattle.station.specs.declared.call.Call.{Call}
 use Rattle.lives.specs.History.{Moment, History, Event, event, seats, Stay, Stays, Change, comes, goes, same, labels_by_seat, with_stay, begun, stays, stays_after}
@@ -78,7 +78,7 @@ module _ (s : System) (change : Event → Change) (beside : Stays → ℕ → St
       ∙ with_same (stays s change beside past) seat (begun (length past) m.call (s.choice (labels_by_seat (seats past) (beside (stays s change beside past) seat))))
       ∙ ap (begun (length past) m.call) label ∙ ap Some made
 
-  lasts_told : (later : History) (m : Moment) (past : History) → All (λ x. leaves_alone seat (change (event x)) ≡ true) later → stays s change beside (m ∷ past) seat ≡ Some w → stays s change beside (later ++ m ∷ past) seat ≡ Some w
+  lasts_told : (later : History) (m : Moment) (past : History) → AllByRecursion (λ x. leaves_alone seat (change (event x)) ≡ true) later → stays s change beside (m ∷ past) seat ≡ Some w → stays s change beside (later ++ m ∷ past) seat ≡ Some w
   lasts_told [] m past alone h = h
   lasts_told (x ∷ later) m past alone h =
       kept (change (event x)) (seats (later ++ m ∷ past)) (length (later ++ m ∷ past)) x.call (stays s change beside (later ++ m ∷ past)) alone.0 ∙ lasts_told later m past alone.1 h

@@ -1,5 +1,5 @@
 -- The labels that entries tell, where one entry changes.
-use Rattle.std.proofs.Common.{◌≡◌, ℕ, zero, suc, ◌+◌, ◌<◌, ◌≤◌, List, [], ◌∷◌, length, get_or, set, Some, None, Option, sym, refl, ap, ◌∙◌, arith}
+use Rattle.std.proofs.Common.{◌≡◌, ℕ, zero, suc, ◌+◌, ◌<◌, List, [], ◌∷◌, length, get_or, set, Some, None, Option, sym, refl, arith}
 use Rattle.labels.proofs.Tally.{one, tally, one_is, Within}
 use Rattle.labels.proofs.Exact.{none_is_no_label, some_is}
 use Rattle.search.specs.Search.{labels_in}

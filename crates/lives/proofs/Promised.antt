@@ -1,5 +1,5 @@
 -- Every life is sound, its table shows its history, and any two lives agree.
-use Rattle.std.proofs.Common.{◌≡◌, ℕ, true, List, [], ◌∷◌, length, Some, None, sym, ap, ◌∙◌}
+use Rattle.std.proofs.Common.{◌≡◌, ℕ, true, List, [], ◌∷◌, length, Some, sym, ◌∙◌}
 use Rattle.labels.specs.System.{System, Laws}
 use Rattle.station.specs.declared.call.Call.{Call}
 use Rattle.station.specs.Table.{Table, is_holding}

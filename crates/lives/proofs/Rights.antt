@@ -1,7 +1,7 @@
 -- Every reply is right.
 use Rattle.std.proofs.Common.{◌≡◌, ℕ, suc, ◌+◌, ◌<◌, Bool, true, false, cond, not, ◌&&◌, eqb, leb, ◌⊎◌, ◌↔◌, List, [], ◌∷◌, ◌++◌, length, get_or, is_some as option_is_some, Some, None, Ok, Err, Option, sym, refl, ap, ◌∙◌, subst, inl, inr, arith}
 use Rattle.std.proofs.lemmas.Bool.{cases_eq, and_parts, not-true, eqb-false}
-use Rattle.std.specs.List.{AllByRecursion as All}
+use Rattle.std.specs.List.{AllByRecursion}
 use Rattle.labels.specs.System.{System, Laws}
 use Rattle.search.specs.Search.{head_of}
 use Rattle.station.specs.declared.call.Call.{Call}
@@ -14,12 +14,11 @@ use Rattle.station.specs.declared.row.Row.{Row}
 use Rattle.station.specs.Numbers.{number}
 use Rattle.station.specs.Table.{Table, blank, row_of, waiting_label, standing_label}
 use Rattle.station.specs.Questions.{Asked, ask, first_no, Reply, replied}
-use Rattle.station.specs.Facts.{Facts, is_seat, questions}
+use Rattle.station.specs.Facts.{Facts, is_seat, questions_over}
 use Rattle.station.specs.Rules.{standing_entries, writing_row, written_map, found_row, line_tail, register_head, waiting_seat, writing_seat, map_in_force, or_zero, label_beats, answer, reply, questions as asked_of}
-use Rattle.station.specs.Told.{facts}
 use Rattle.station.proofs.Asking.{row_alike}
-use Rattle.lives.specs.History.{Moment, History, event_of, seats, holder, Stay, Stays, comes, line_change, register_change, labels_by_seat, with_stay, begun, stay_label, waiting, standing, is_seat as holds-seat, facts_told}
-use Rattle.lives.specs.Answers.{Nobody, Latest, InForce, Compared, RightAnswer, refusal, RefusedWith, Begins, Right}
+use Rattle.lives.specs.History.{History, seats, holder, Stay, Stays, comes, line_change, register_change, labels_by_seat, with_stay, begun, stay_label, waiting, standing, is_seat as holds-seat, facts_told}
+use Rattle.lives.specs.Answers.{Latest, InForce, Compared, RightAnswer, refusal, RefusedWith, Begins, Right}
 use Rattle.lives.specs.Promises.{writing_told, map_written}
 use Rattle.lives.proofs.Stays.{none_some, with_same}
 use Rattle.lives.proofs.Healthy.{Healthy, healthy_without, never_none}
@@ -39,7 +38,7 @@ passed true o e d h = inr (refl, h)
 passed false o e d h = inl (refl, cc)
 
 -- where the number stands only at the last question, that one is answered no and all before it yes
-only_last : (n : ℕ) (qs : List Asked) (q : Asked) → absent_in n qs ≡ true → (e : Refusal) → first_no (qs ++ q ∷ []) ≡ Some e → number e.reason ≡ n → All (λ (x : Asked). x.holds ≡ true) qs × (q.holds ≡ false)
+only_last : (n : ℕ) (qs : List Asked) (q : Asked) → absent_in n qs ≡ true → (e : Refusal) → first_no (qs ++ q ∷ []) ≡ Some e → number e.reason ≡ n → AllByRecursion (λ (x : Asked). x.holds ≡ true) qs × (q.holds ≡ false)
 only_last n [] q absent e h is =
     elim (passed q.holds None (record { reason = q.reason; seat = q.seat }) e h) [ inl p ↦ (tt, p.0) | inr p ↦ absurd (none_some (sym p.1) refl) ]
 only_last n (x ∷ qs) q absent e h is =
@@ -60,54 +59,54 @@ absent n (x ∷ qs) none e h is =
 
 module _ (f : Facts) where
   -- nobody is said to wait only by a start
-  no_tail : (call : Call) (e : Refusal) → first_no (questions f call) ≡ Some e → number e.reason ≡ 10 → f.has_tail ≡ false
-  no_tail (Open n) e h is = absurd (absent 10 (questions f (Open n)) refl e h is)
-  no_tail (Join seat) e h is = absurd (absent 10 (questions f (Join seat)) refl e h is)
-  no_tail (Leave seat) e h is = absurd (absent 10 (questions f (Leave seat)) refl e h is)
+  no_tail : (call : Call) (e : Refusal) → first_no (questions_over f call) ≡ Some e → number e.reason ≡ 10 → f.has_tail ≡ false
+  no_tail (Open n) e h is = absurd (absent 10 (questions_over f (Open n)) refl e h is)
+  no_tail (Join seat) e h is = absurd (absent 10 (questions_over f (Join seat)) refl e h is)
+  no_tail (Leave seat) e h is = absurd (absent 10 (questions_over f (Leave seat)) refl e h is)
   no_tail Start e h is = (only_last 10 (ask f.start_free StartTaken 0 ∷ []) (ask f.has_tail NobodyWaits 0) refl e h is).1
-  no_tail (Finish seat) e h is = absurd (absent 10 (questions f (Finish seat)) refl e h is)
-  no_tail (Write seat m) e h is = absurd (absent 10 (questions f (Write seat m)) refl e h is)
-  no_tail (Strike seat) e h is = absurd (absent 10 (questions f (Strike seat)) refl e h is)
-  no_tail Read e h is = absurd (absent 10 (questions f Read) refl e h is)
-  no_tail (Earlier a b) e h is = absurd (absent 10 (questions f (Earlier a b)) refl e h is)
-  no_tail (Newer a b) e h is = absurd (absent 10 (questions f (Newer a b)) refl e h is)
-  no_tail (Label seat) e h is = absurd (absent 10 (questions f (Label seat)) refl e h is)
+  no_tail (Finish seat) e h is = absurd (absent 10 (questions_over f (Finish seat)) refl e h is)
+  no_tail (Write seat m) e h is = absurd (absent 10 (questions_over f (Write seat m)) refl e h is)
+  no_tail (Strike seat) e h is = absurd (absent 10 (questions_over f (Strike seat)) refl e h is)
+  no_tail Read e h is = absurd (absent 10 (questions_over f Read) refl e h is)
+  no_tail (Earlier a b) e h is = absurd (absent 10 (questions_over f (Earlier a b)) refl e h is)
+  no_tail (Newer a b) e h is = absurd (absent 10 (questions_over f (Newer a b)) refl e h is)
+  no_tail (Label seat) e h is = absurd (absent 10 (questions_over f (Label seat)) refl e h is)
 
   -- nothing is said to stand only by a reading
-  no_head : (call : Call) (e : Refusal) → first_no (questions f call) ≡ Some e → number e.reason ≡ 12 → f.has_head ≡ false
-  no_head (Open n) e h is = absurd (absent 12 (questions f (Open n)) refl e h is)
-  no_head (Join seat) e h is = absurd (absent 12 (questions f (Join seat)) refl e h is)
-  no_head (Leave seat) e h is = absurd (absent 12 (questions f (Leave seat)) refl e h is)
-  no_head Start e h is = absurd (absent 12 (questions f Start) refl e h is)
-  no_head (Finish seat) e h is = absurd (absent 12 (questions f (Finish seat)) refl e h is)
-  no_head (Write seat m) e h is = absurd (absent 12 (questions f (Write seat m)) refl e h is)
-  no_head (Strike seat) e h is = absurd (absent 12 (questions f (Strike seat)) refl e h is)
+  no_head : (call : Call) (e : Refusal) → first_no (questions_over f call) ≡ Some e → number e.reason ≡ 12 → f.has_head ≡ false
+  no_head (Open n) e h is = absurd (absent 12 (questions_over f (Open n)) refl e h is)
+  no_head (Join seat) e h is = absurd (absent 12 (questions_over f (Join seat)) refl e h is)
+  no_head (Leave seat) e h is = absurd (absent 12 (questions_over f (Leave seat)) refl e h is)
+  no_head Start e h is = absurd (absent 12 (questions_over f Start) refl e h is)
+  no_head (Finish seat) e h is = absurd (absent 12 (questions_over f (Finish seat)) refl e h is)
+  no_head (Write seat m) e h is = absurd (absent 12 (questions_over f (Write seat m)) refl e h is)
+  no_head (Strike seat) e h is = absurd (absent 12 (questions_over f (Strike seat)) refl e h is)
   no_head Read e h is = (only_last 12 [] (ask f.has_head NothingStands 0) refl e h is).1
-  no_head (Earlier a b) e h is = absurd (absent 12 (questions f (Earlier a b)) refl e h is)
-  no_head (Newer a b) e h is = absurd (absent 12 (questions f (Newer a b)) refl e h is)
-  no_head (Label seat) e h is = absurd (absent 12 (questions f (Label seat)) refl e h is)
+  no_head (Earlier a b) e h is = absurd (absent 12 (questions_over f (Earlier a b)) refl e h is)
+  no_head (Newer a b) e h is = absurd (absent 12 (questions_over f (Newer a b)) refl e h is)
+  no_head (Label seat) e h is = absurd (absent 12 (questions_over f (Label seat)) refl e h is)
 
   -- a label is said to be missing by a join or a writing of a seat that may have one
   pub data Missing : Type 0 where
     to_wait : (seat : ℕ) → is_seat f seat ≡ true → f.idle seat ≡ true → f.label_to_wait ≡ false → Missing
     to_write : (seat : ℕ) → is_seat f seat ≡ true → f.label_to_write seat ≡ false → Missing
 
-  no_label : (call : Call) (e : Refusal) → first_no (questions f call) ≡ Some e → number e.reason ≡ 13 → Missing
-  no_label (Open n) e h is = absurd (absent 13 (questions f (Open n)) refl e h is)
+  no_label : (call : Call) (e : Refusal) → first_no (questions_over f call) ≡ Some e → number e.reason ≡ 13 → Missing
+  no_label (Open n) e h is = absurd (absent 13 (questions_over f (Open n)) refl e h is)
   no_label (Join seat) e h is =
       let p = only_last 13 (ask (is_seat f seat) NoSuchSeat seat ∷ ask (f.idle seat) NotIdle seat ∷ []) (ask f.label_to_wait NoLabelLeft seat) refl e h is in
       to_wait seat p.0.0 p.0.1.0 p.1
-  no_label (Leave seat) e h is = absurd (absent 13 (questions f (Leave seat)) refl e h is)
-  no_label Start e h is = absurd (absent 13 (questions f Start) refl e h is)
-  no_label (Finish seat) e h is = absurd (absent 13 (questions f (Finish seat)) refl e h is)
+  no_label (Leave seat) e h is = absurd (absent 13 (questions_over f (Leave seat)) refl e h is)
+  no_label Start e h is = absurd (absent 13 (questions_over f Start) refl e h is)
+  no_label (Finish seat) e h is = absurd (absent 13 (questions_over f (Finish seat)) refl e h is)
   no_label (Write seat m) e h is =
       let p = only_last 13 (ask (is_seat f seat) NoSuchSeat seat ∷ ask (leb m 65535) MapTooLarge seat ∷ []) (ask (f.label_to_write seat) NoLabelLeft seat) refl e h is in
       to_write seat p.0.0 p.1
-  no_label (Strike seat) e h is = absurd (absent 13 (questions f (Strike seat)) refl e h is)
-  no_label Read e h is = absurd (absent 13 (questions f Read) refl e h is)
-  no_label (Earlier a b) e h is = absurd (absent 13 (questions f (Earlier a b)) refl e h is)
-  no_label (Newer a b) e h is = absurd (absent 13 (questions f (Newer a b)) refl e h is)
-  no_label (Label seat) e h is = absurd (absent 13 (questions f (Label seat)) refl e h is)
+  no_label (Strike seat) e h is = absurd (absent 13 (questions_over f (Strike seat)) refl e h is)
+  no_label Read e h is = absurd (absent 13 (questions_over f Read) refl e h is)
+  no_label (Earlier a b) e h is = absurd (absent 13 (questions_over f (Earlier a b)) refl e h is)
+  no_label (Newer a b) e h is = absurd (absent 13 (questions_over f (Newer a b)) refl e h is)
+  no_label (Label seat) e h is = absurd (absent 13 (questions_over f (Label seat)) refl e h is)
 
 -- Replies
 
@@ -176,7 +175,7 @@ module _ (s : System) (laws : Laws s) (t : Table) (past : History) (h : Fits s t
       go (Some k) e = (k + 1, head_read k e)
 
   abbrev Yes : Call → Type 0
-  Yes call = All (λ (q : Asked). q.holds ≡ true) (questions (facts_told s past) call)
+  Yes call = AllByRecursion (λ (q : Asked). q.holds ≡ true) (questions_over (facts_told s past) call)
 
   reading : (facts_told s past).has_head ≡ true → RightAnswer s past Read (answer s t Read)
   reading some = go (head_of s (standing_entries t)) refl
@@ -217,7 +216,7 @@ module _ (s : System) (laws : Laws s) (t : Table) (past : History) (h : Fits s t
       (w.0, w.1, ap (λ x. Labelled (or_zero x)) (ap standing_label (row_alike t seat (in_seats (seats past) seat yes'.0).0) ∙ label_stands s laws t (seats past) (waiting s past) (standing s past) (holder past) (length past) h seat ∙ ap stay_label w.1))
 
   yes_where_accepted : (call : Call) → first_no (asked_of s t call) ≡ None → Yes call
-  yes_where_accepted call e = all_yes (questions (facts_told s past) call) (sym (same_questions s laws t past h call) ∙ e)
+  yes_where_accepted call e = all_yes (questions_over (facts_told s past) call) (sym (same_questions s laws t past h call) ∙ e)
 
   joins : (call : Call) (o : Option Refusal) → first_no (asked_of s t call) ≡ o → Begins (waiting s) line_change past (record { call = call; reply = replied o (answer s t call) })
   joins call (Some e) is seat change = let z : ◌≡◌ {A = ℕ} 0 1 = cc in absurd (omega arith)
@@ -255,7 +254,7 @@ module _ (s : System) (laws : Laws s) (t : Table) (past : History) (h : Fits s t
       let within = in_seats (seats past) seat seated in
       never_none s laws (seats past) (with_stay (standing s past) seat None) (length past) h.reach (healthy_without s laws (seats past) (standing s past) (length past) h.register seat within.0 within.1) seat within.0 within.1 (with_same (standing s past) seat None) endless (is_none (s.choice (labels_by_seat (seats past) (with_stay (standing s past) seat None))) none)
 
-  refused : (call : Call) → refusal (reply s t call) ≡ first_no (questions (facts_told s past) call)
+  refused : (call : Call) → refusal (reply s t call) ≡ first_no (questions_over (facts_told s past) call)
   refused call = refusal_replied (first_no (asked_of s t call)) (answer s t call) ∙ same_questions s laws t past h call
 
   pub right : (call : Call) → Right s past (record { call = call; reply = reply s t call })
@@ -264,7 +263,7 @@ module _ (s : System) (laws : Laws s) (t : Table) (past : History) (h : Fits s t
     answered = λ a e. let p = accepted_reply (first_no (asked_of s t call)) (answer s t call) a e in subst (λ (x : Answer). RightAnswer s past call x) p.1 (answered call (yes_where_accepted call p.0));
     joins = joins call (first_no (asked_of s t call)) refl;
     writes = writes call (first_no (asked_of s t call)) refl;
-    start_taken = λ is. taken (reply s t call) (holder past) (facts_told s past).has_tail (refused call ∙ ap (λ (c : Call). first_no (questions (facts_told s past) c)) is);
+    start_taken = λ is. taken (reply s t call) (holder past) (facts_told s past).has_tail (refused call ∙ ap (λ (c : Call). first_no (questions_over (facts_told s past) c)) is);
     nobody_waits = λ p. nobody_else s (seats past) (waiting s past) (length past) h.line (no_tail (facts_told s past) call p.0 (sym (refused call) ∙ refusal_of (reply s t call) p.0 p.1) p.2);
     nothing_stands = λ p. nobody_else s (seats past) (standing s past) (length past) h.register (no_head (facts_told s past) call p.0 (sym (refused call) ∙ refusal_of (reply s t call) p.0 p.1) p.2);
     never_spent = λ endless p. never_missing endless (no_label (facts_told s past) call p.0 (sym (refused call) ∙ refusal_of (reply s t call) p.0 p.1) p.2);

@@ -1,12 +1,10 @@
 -- A table that shows who waits, what stands and who holds the start tells the same facts as they do.
-use Rattle.std.proofs.Common.{◌≡◌, ℕ, zero, suc, ◌+◌, ◌-◌, ◌<◌, ◌≤◌, Bool, true, false, not, ◌&&◌, ◌||◌, eqb, ◌≢◌, List, [], ◌∷◌, map, length, get_or, set, is_some, Some, None, Option, sym, refl, ap, ◌∙◌, subst, inl, inr, arith}
-use mathlib.Core.Path.{fun_ext}
+use Rattle.std.proofs.Common.{◌≡◌, ℕ, zero, suc, ◌+◌, ◌-◌, ◌<◌, ◌≤◌, Bool, true, false, not, ◌&&◌, List, [], ◌∷◌, map, length, get_or, set, is_some, Some, None, Option, sym, refl, ap, ◌∙◌, inl, inr, arith}
 use Rattle.std.proofs.lemmas.List.{get_or_past, set_past, length-map}
 use Rattle.std.proofs.lemmas.Bool.{cases_eq, cases_lt, cases_Bool, eq-eqb, eqb-true, or_left, or_right, or_from}
 use Rattle.labels.specs.System.{System, Laws}
 use Rattle.search.specs.Search.{labels_in, head_of, tail_of}
 use Rattle.station.specs.declared.call.Call.TheVariants.{Write}
-use Rattle.station.specs.declared.row.Line.TheVariants.{Idle, Waiting, Holding}
 use Rattle.station.specs.declared.row.Row.{Row}
 use Rattle.station.specs.Table.{Table, blank, line_label, writing_label, waiting_label, standing_label, is_idle, is_holding}
 use Rattle.station.specs.Facts.{Facts}

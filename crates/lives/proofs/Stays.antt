@@ -1,9 +1,9 @@
 -- Stays seat by seat: one of them changed, and what they tell of their labels.
-use Rattle.std.proofs.Common.{◌≡◌, ℕ, suc, ◌-◌, ◌<◌, ◌≤◌, eqb, ◌≢◌, ◌⊎◌, List, length, get_or, set, Some, None, Option, sym, refl, ap, ◌∙◌, inl, inr, arith}
+use Rattle.std.proofs.Common.{◌≡◌, ℕ, suc, ◌-◌, ◌≤◌, eqb, ◌≢◌, ◌⊎◌, get_or, set, Some, None, Option, sym, refl, ap, ◌∙◌, inl, inr, arith}
 use mathlib.Core.Path.{fun_ext}
 use Rattle.std.proofs.lemmas.List.{get_or_past}
 use Rattle.std.proofs.lemmas.Bool.{cases_eq, cases_lt, eq-eqb, ne_eqb, cond-true, cond-false}
-use Rattle.lives.specs.History.{Stay, Stays, stay_label, rising, entries, with_stay}
+use Rattle.lives.specs.History.{Stay, Stays, stay_label, entries, with_stay}
 use Rattle.lives.proofs.BySeat.{length_by_seat, at_place, set_by_seat}
 
 -- none is not some

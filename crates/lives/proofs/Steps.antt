@@ -1,13 +1,12 @@
 -- Every call keeps the table and the history together.
-use Rattle.std.proofs.Common.{◌≡◌, ℕ, zero, suc, ◌+◌, ◌-◌, ◌<◌, ◌≤◌, Bool, true, false, cond, not, ◌&&◌, eqb, leb, ◌≢◌, List, [], ◌∷◌, map, length, get_or, set, replicate, is_some as option_is_some, Some, None, Ok, Err, Option, sym, refl, ap, ◌∙◌, subst, inl, inr, arith}
+use Rattle.std.proofs.Common.{◌≡◌, ℕ, suc, ◌+◌, ◌-◌, ◌<◌, ◌≤◌, Bool, true, false, cond, not, ◌&&◌, leb, ◌≢◌, List, [], ◌∷◌, map, length, get_or, set, is_some as option_is_some, Some, None, Ok, Option, sym, refl, ap, ◌∙◌, subst, inl, inr, arith}
 use Rattle.std.proofs.lemmas.List.{length-replicate, get_or-replicate, ext_get_or}
 use Rattle.std.proofs.lemmas.Bool.{and_parts, leb-true, eqb-true, eq-eqb, ne_eqb, not-true}
-use Rattle.std.specs.List.{AllByRecursion as All}
+use Rattle.std.specs.List.{AllByRecursion}
 use Rattle.labels.specs.System.{System, Laws}
-use Rattle.search.specs.Search.{head_of, tail_of, labels_in}
+use Rattle.search.specs.Search.{tail_of, labels_in}
 use Rattle.station.specs.declared.call.Call.{Call}
 use Rattle.station.specs.declared.call.Call.TheVariants.{Open, Join, Leave, Start, Finish, Write, Strike, Read, Earlier, Newer, Label}
-use Rattle.station.specs.declared.answer.Answer.{Answer}
 use Rattle.station.specs.declared.refusal.Refusal.{Refusal}
 use Rattle.station.specs.declared.row.Line.{Line}
 use Rattle.station.specs.declared.row.Line.TheVariants.{Idle, Waiting, Holding}
@@ -15,18 +14,17 @@ use Rattle.station.specs.declared.row.Writing.{Writing}
 use Rattle.station.specs.declared.row.Row.{Row}
 use Rattle.station.specs.Table.{Table, blank, opened_for, row_of, with_row, with_line, with_writing}
 use Rattle.station.specs.Questions.{Asked, first_no, replied, settled}
-use Rattle.station.specs.Facts.{Facts, questions}
+use Rattle.station.specs.Facts.{Facts, questions_over}
 use Rattle.station.specs.Rules.{waiting_row, found_row, line_tail, waiting_seat, waiting_entries, waiting_choice, standing_choice, or_zero, answer, after, reply, next, questions as asked_of}
-use Rattle.station.specs.Told.{facts}
 use Rattle.station.proofs.Asking.{row_alike, beside_alike, asked_alike}
-use Rattle.lives.specs.History.{Moment, History, seats, holder, Stay, Stays, rising, entries, labels_by_seat, with_stay, begun, waiting, standing, is_seat, facts_told}
+use Rattle.lives.specs.History.{History, seats, holder, Stay, Stays, rising, labels_by_seat, with_stay, begun, waiting, standing, is_seat, facts_told}
 use Rattle.lives.specs.Answers.{Nobody, Longest}
 use Rattle.lives.specs.Promises.{line_told, writing_told}
 use Rattle.lives.proofs.BySeat.{length_by_seat, at_place, set_by_seat}
 use Rattle.lives.proofs.Stays.{none_some, with_same, with_other, with_twice, without_none, without_some, with_some}
 use Rattle.lives.proofs.Healthy.{Healthy, none_beyond, healthy_later, healthy_none, healthy_without, healthy_with}
 use Rattle.lives.proofs.Found.{tail_some}
-use Rattle.lives.proofs.Shown.{told_row, told_rows, Shown, is_seat_true, size, not_holding, row_shown, line_entries, choice_waits, choice_stands, facts_agree}
+use Rattle.lives.proofs.Shown.{told_row, told_rows, Shown, is_seat_true, not_holding, row_shown, line_entries, choice_waits, choice_stands, facts_agree}
 
 -- the table of a station with this history
 abbrev pub Fits : System → Table → History → Type 0
@@ -39,7 +37,7 @@ yes_first true o e h = (refl, h)
 yes_first false o e h = absurd (none_some h refl)
 
 -- without a first no every question is answered yes
-pub all_yes : (qs : List Asked) → first_no qs ≡ None → All (λ (q : Asked). q.holds ≡ true) qs
+pub all_yes : (qs : List Asked) → first_no qs ≡ None → AllByRecursion (λ (q : Asked). q.holds ≡ true) qs
 all_yes [] h = tt
 all_yes (q ∷ qs) h =
     let p = yes_first q.holds (first_no qs) (record { reason = q.reason; seat = q.seat }) h in
@@ -195,8 +193,8 @@ module _ (s : System) (laws : Laws s) (t : Table) (past : History) (h : Fits s t
       go (Some seat) e = absurd (omega (arith, (h.held seat e).0, (h.held seat e).1))
 
   -- the questions are answered as the history tells
-  pub same_questions : (call : Call) → first_no (asked_of s t call) ≡ first_no (questions (facts_told s past) call)
-  same_questions call = asked_alike s t call ∙ ap (λ (x : Facts). first_no (questions x call)) (facts_agree s laws t (seats past) (waiting s past) (standing s past) (holder past) (length past) h)
+  pub same_questions : (call : Call) → first_no (asked_of s t call) ≡ first_no (questions_over (facts_told s past) call)
+  same_questions call = asked_alike s t call ∙ ap (λ (x : Facts). first_no (questions_over x call)) (facts_agree s laws t (seats past) (waiting s past) (standing s past) (holder past) (length past) h)
 
   -- the seat that a start goes to has waited longest
   pub first_in_line : (facts_told s past).has_tail ≡ true → Longest (waiting s past) (waiting_seat (line_tail s t))
@@ -221,7 +219,7 @@ module _ (s : System) (laws : Laws s) (t : Table) (past : History) (h : Fits s t
   stays_so = record { rows = h.rows; few = h.few; reach = h.reach; line = healthy_later s (seats past) (waiting s past) (length past) h.line; register = healthy_later s (seats past) (standing s past) (length past) h.register; writers = h.writers; held = h.held }
 
   abbrev Yes : Call → Type 0
-  Yes call = All (λ (q : Asked). q.holds ≡ true) (questions (facts_told s past) call)
+  Yes call = AllByRecursion (λ (q : Asked). q.holds ≡ true) (questions_over (facts_told s past) call)
 
   accepted : (call : Call) → Yes call → Fits s (after s t call) (record { call = call; reply = Ok (answer s t call) } ∷ past)
   accepted (Open n) yes' =
@@ -258,7 +256,7 @@ module _ (s : System) (laws : Laws s) (t : Table) (past : History) (h : Fits s t
   step call = go (first_no (asked_of s t call)) refl
     where
       go : (o : Option Refusal) → first_no (asked_of s t call) ≡ o → Fits s (settled o t (after s t call)) (record { call = call; reply = replied o (answer s t call) } ∷ past)
-      go None e = accepted call (all_yes (questions (facts_told s past) call) (sym (same_questions call) ∙ e))
+      go None e = accepted call (all_yes (questions_over (facts_told s past) call) (sym (same_questions call) ∙ e))
       go (Some refusal) e = stays_so
 
 pub fits_new : (s : System) → Laws s → Fits s [] []

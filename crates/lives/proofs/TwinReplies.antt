@@ -11,7 +11,7 @@ use Rattle.station.specs.declared.refusal.Reason.TheVariants.{AlreadyOpen, SeatC
 use Rattle.station.specs.declared.refusal.Refusal.{Refusal}
 use Rattle.station.specs.Numbers.{number}
 use Rattle.station.specs.Questions.{Reply, ask, first_no}
-use Rattle.station.specs.Facts.{Facts, is_seat, questions}
+use Rattle.station.specs.Facts.{Facts, is_seat, questions_over}
 use Rattle.lives.specs.History.{Moment, History, Event, opened, joined, left, started, finished, written, struck, nothing, event_of, seats, seats_after, line_change, register_change, everyone, others, waiting, standing, rising, facts_told}
 use Rattle.lives.specs.Answers.{RightAnswer, refusal, RefusedWith, Right}
 use Rattle.lives.specs.Promises.{Alike, equal, labels}
@@ -70,8 +70,8 @@ same_three seat d e true true false y has-x has-y = absurd (has-x (record { reas
 same_three seat d e true true true false has-x has-y = absurd (has-y (record { reason = NoLabelLeft; seat = seat }) refl refl)
 
 -- over the same facts the same question is the first to be answered no, unless no label is left
-same_no : (F G : Facts) → SameFacts F G → (call : Call) → Unspent (first_no (questions F call)) → Unspent (first_no (questions G call))
-    → first_no (questions F call) ≡ first_no (questions G call)
+same_no : (F G : Facts) → SameFacts F G → (call : Call) → Unspent (first_no (questions_over F call)) → Unspent (first_no (questions_over G call))
+    → first_no (questions_over F call) ≡ first_no (questions_over G call)
 same_no F G e (Open n) has-f has-g =
     let some = e.some in
     let one = e.seats in
@@ -132,7 +132,7 @@ alike_event call r q equal = refl
 alike_event call r q labels = refl
 
 -- an opening is accepted only where there are no seats yet, and for one seat at least
-pub opening_told : (F : Facts) (n : ℕ) (call : Call) (r : Reply) → refusal r ≡ first_no (questions F call) → event_of call r ≡ opened n → (F.seats ≡ 0) × (1 ≤ n)
+pub opening_told : (F : Facts) (n : ℕ) (call : Call) (r : Reply) → refusal r ≡ first_no (questions_over F call) → event_of call r ≡ opened n → (F.seats ≡ 0) × (1 ≤ n)
 opening_told F n call (Err e) h is = let z : ◌≡◌ {A = ℕ} 0 1 = cc in absurd (omega arith)
 opening_told F n (Open m) (Ok a) h is =
     let (shut, count) = none_no (eqb F.seats 0) (leb 1 m && leb m 20) h in
@@ -183,8 +183,8 @@ module _ (s u : System) (a b : ℕ) (past then : History) (tw : Twin s u a b pas
       no =
           let F = facts_told s past in
           let G = facts_told u then in
-          let has-f = unspent r (first_no (questions F call)) right-s.refused has-s in
-          let has-g = unspent q (first_no (questions G call)) right-u.refused has-u in
+          let has-f = unspent r (first_no (questions_over F call)) right-s.refused has-s in
+          let has-g = unspent q (first_no (questions_over G call)) right-u.refused has-u in
           right-s.refused ∙ same_no F G (facts_same s u a b past then tw) call has-f has-g ∙ sym right-u.refused
 
       go : (x y : Reply) → r ≡ x → q ≡ y → Alike call r q

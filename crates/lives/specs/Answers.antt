@@ -1,5 +1,5 @@
 -- What a right reply is, after what is past.
-use Rattle.std.specs.Prelude.{◌≡◌, ℕ, ◌<◌, Bool, true, ◌↔◌, List, [], ◌∷◌, length, Some, None, Ok, Err, Option, ◌≢◌}
+use Rattle.std.specs.Prelude.{◌≡◌, ℕ, ◌<◌, Bool, true, ◌↔◌, ◌∷◌, length, Some, None, Ok, Err, Option, ◌≢◌}
 use Rattle.labels.specs.System.{System}
 use Rattle.station.specs.declared.call.Call.{Call}
 use Rattle.station.specs.declared.call.Call.TheVariants.{Open, Join, Leave, Start, Finish, Write, Strike, Read, Earlier, Newer, Label}
@@ -8,7 +8,7 @@ use Rattle.station.specs.declared.answer.Answer.TheVariants.{Done, Started, Read
 use Rattle.station.specs.declared.refusal.Refusal.{Refusal}
 use Rattle.station.specs.Numbers.{number}
 use Rattle.station.specs.Questions.{Reply, first_no}
-use Rattle.station.specs.Facts.{questions}
+use Rattle.station.specs.Facts.{questions_over}
 use Rattle.lives.specs.History.{Moment, History, Event, event, holder, Stay, Stays, Change, comes, line_change, register_change, waiting, standing, facts_told}
 
 abbrev pub Nobody : Stays → Type 0
@@ -87,7 +87,7 @@ Begins stays change past m =
 
 pub record Right (s : System) (past : History) (m : Moment) : Type 0 where
   -- it is refused exactly with the first question that the history answers no
-  pub refused : refusal m.reply ≡ first_no (questions (facts_told s past) m.call)
+  pub refused : refusal m.reply ≡ first_no (questions_over (facts_told s past) m.call)
   -- an accepted call is answered rightly
   pub answered : (a : Answer) → m.reply ≡ Ok a → RightAnswer s past m.call a
   -- an accepted join begins a wait, an accepted writing a standing

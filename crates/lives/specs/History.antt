@@ -1,6 +1,6 @@
 -- The history of a station: the calls made on it and their replies, the newest first. Who waits and what stands, since
 -- when and with which label, is told from the calls, the replies and the system's choice. Nothing here knows a table.
-use Rattle.std.specs.Prelude.{ℕ, zero, suc, Bool, true, false, cond, not, ◌&&◌, ◌||◌, List, [], ◌∷◌, map, length, is_some, Some, None, Ok, Err, Option, ◌==◌}
+use Rattle.std.specs.Prelude.{ℕ, zero, suc, Bool, false, cond, not, ◌&&◌, ◌||◌, List, [], ◌∷◌, map, length, is_some, Some, None, Ok, Err, Option, ◌==◌}
 use Rattle.labels.specs.System.{System}
 use Rattle.search.specs.Search.{labels_in}
 use Rattle.station.specs.declared.call.Call.{Call}

@@ -1,6 +1,6 @@
 -- Stays as intervals: a stay lasts from the moment that began it, as long as no later moment begins or ends one of its seat.
-use Rattle.std.specs.Prelude.{◌≡◌, ℕ, Bool, true, not, ◌↔◌, List, ◌∷◌, ◌++◌, length, Some, ◌==◌}
-use Rattle.std.specs.List.{AllByRecursion as All}
+use Rattle.std.specs.Prelude.{◌≡◌, ℕ, Bool, true, not, ◌↔◌, ◌∷◌, ◌++◌, length, Some, ◌==◌}
+use Rattle.std.specs.List.{AllByRecursion}
 use Rattle.labels.specs.System.{System}
 use Rattle.lives.specs.History.{Moment, History, Event, event, seats, Stay, Stays, Change, comes, goes, same, labels_by_seat, stays}
 
@@ -16,7 +16,7 @@ pub record LastsSince (s : System) (change : Event → Change) (beside : Stays �
   pub earlier : History
   pub split : past ≡ later ++ beginning ∷ earlier
   pub begins : change (event beginning) ≡ comes seat
-  pub lasts : All (λ m. leaves_alone seat (change (event m)) ≡ true) later
+  pub lasts : AllByRecursion (λ m. leaves_alone seat (change (event m)) ≡ true) later
   pub since : w.since ≡ length earlier
   pub by : w.by ≡ beginning.call
   pub label : s.choice (labels_by_seat (seats earlier) (beside (stays s change beside earlier) seat)) ≡ Some w.label

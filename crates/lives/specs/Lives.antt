@@ -5,7 +5,7 @@ use Rattle.station.specs.declared.call.Call.{Call}
 use Rattle.station.specs.Table.{Table}
 use Rattle.station.specs.Questions.{Reply}
 use Rattle.station.specs.Rules.{reply, next}
-use Rattle.lives.specs.History.{Moment, History, Event, opened, joined, left, started, finished, written, struck, nothing, event_of}
+use Rattle.lives.specs.History.{History, Event, opened, joined, left, started, finished, written, struck, nothing, event_of}
 
 -- the replies to calls on a station with this table, and the table that they leave; the oldest call comes first
 abbrev pub replies : System → Table → List Call → List Reply

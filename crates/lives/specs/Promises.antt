@@ -1,5 +1,5 @@
 -- What holds at every step of every life of a station.
-use Rattle.std.specs.Prelude.{◌≡◌, ℕ, ◌<◌, Bool, true, false, ◌⊎◌, List, [], ◌∷◌, length, Some, None, Ok, Err, Option}
+use Rattle.std.specs.Prelude.{◌≡◌, ℕ, ◌<◌, Bool, true, false, ◌⊎◌, List, [], ◌∷◌, length, Some, None, Ok, Option}
 use Rattle.labels.specs.System.{System}
 use Rattle.station.specs.declared.call.Call.{Call}
 use Rattle.station.specs.declared.call.Call.TheVariants.{Open, Join, Leave, Start, Finish, Write, Strike, Read, Earlier, Newer, Label}
@@ -11,10 +11,10 @@ use Rattle.station.specs.declared.row.Row.{Row}
 use Rattle.station.specs.Table.{Table, is_holding}
 use Rattle.station.specs.Told.{row_at}
 use Rattle.station.specs.Questions.{Reply}
-use Rattle.lives.specs.History.{Moment, History, seats, holder, is_seat, Stay, Stays, line_change, register_change, everyone, others, waiting, standing}
+use Rattle.lives.specs.History.{History, seats, holder, is_seat, Stay, Stays, line_change, register_change, everyone, others, waiting, standing}
 use Rattle.lives.specs.Intervals.{Intervals}
 use Rattle.lives.specs.Answers.{Right, RefusedWith}
-use Rattle.lives.specs.Lives.{table_after, life, history, Opened, since_opening}
+use Rattle.lives.specs.Lives.{table_after, life, history, since_opening}
 
 -- Of any two stays the later label beats the earlier, and the earlier does not beat the later. No two began together.
 pub record InOrder (s : System) (stays : Stays) : Type 0 where

@@ -1,7 +1,7 @@
 -- Two systems that show the laws show them one over the other.
 use Rattle.std.proofs.Common.{◌≡◌, ℕ, ◌+◌, ◌*◌, ◌/◌, ◌%◌, ◌<◌, ◌≤◌, Bool, true, ◌&&◌, ◌||◌, eqb, ltb, ◌⊎◌, List, [], ◌∷◌, ◌++◌, length, get_or, Some, None, sym, refl, ap, ◌∙◌, subst, inl, inr, div-add-mod', arith}
 use lib.Arith.{digits_div, digits_mod}
-use Rattle.std.specs.List.{remove, AllByRecursion as All}
+use Rattle.std.specs.List.{remove, AllByRecursion}
 use Rattle.std.specs.List.Sorted.{IsPermutation}
 use Rattle.std.proofs.lemmas.Bool.{cases_eq, eqb-true, eq-eqb, cond-false, cases_lt, and_parts, and_from, or_cases, or_left, or_right, ltb-true, lt-ltb, le-ltb, and_left}
 use Rattle.std.proofs.lemmas.List.{length-append}
@@ -155,7 +155,7 @@ module _ (o i : System) (lo : Laws o) (li : Laws i) where
   part_led : (l : List ℕ) (m : ℕ) → LedBy o.beats (outer_parts i.count l) m → 0 < tally m (outer_parts i.count l)
   part_led l m led = omega (arith, (leads_from_led o lo (outer_parts i.count l) m led).single)
 
-  outer_part_label : (l : List ℕ) (m : ℕ) → All (λ y. y < over_count o i) l → 0 < tally m (outer_parts i.count l) → m < o.count
+  outer_part_label : (l : List ℕ) (m : ℕ) → AllByRecursion (λ y. y < over_count o i) l → 0 < tally m (outer_parts i.count l) → m < o.count
   outer_part_label l m labels p =
       let y = outer_from i.count m l p in
       rw y.2 at (outer_label o i lo li y.0 (all_tally (λ z. z < over_count o i) l y.0 labels y.1))
@@ -167,12 +167,12 @@ module _ (o i : System) (lo : Laws o) (li : Laws i) where
   chosen_label : (l : List ℕ) (x : ℕ) → over_choice o i l ≡ Some x → x < over_count o i
   chosen_label l x e = let c = step_of o i lo li l x e in by_step c.labels (room_fits o i lo li l c.room) c.step
     where
-      by_step : All (λ y. y < over_count o i) l → Fitting o i → Step o i l x → x < over_count o i
+      by_step : AllByRecursion (λ y. y < over_count o i) l → Fitting o i → Step o i l x → x < over_count o i
       by_step labels fit (first a b none ea eb is) = rw is (made_label o i lo li a b fit (lo.chosen_label [] a ea) (li.chosen_label [] b eb))
       by_step labels fit (grows m b led lt eb is) = rw is (made_label o i lo li m b fit (outer_part_label l m labels (part_led l m led)) (li.chosen_label (under i.count m l) b eb))
       by_step labels fit (outward m a b led ge ea eb is) = rw is (made_label o i lo li a b fit (lo.chosen_label (outer_parts i.count l) a ea) (li.chosen_label [] b eb))
 
-  chosen_beats : (l : List ℕ) (x : ℕ) → over_choice o i l ≡ Some x → OverLawful o i l → All (λ y. over_beats o i x y ≡ true) l
+  chosen_beats : (l : List ℕ) (x : ℕ) → over_choice o i l ≡ Some x → OverLawful o i l → AllByRecursion (λ y. over_beats o i x y ≡ true) l
   chosen_beats l x e h = tally_all (λ y. over_beats o i x y ≡ true) l (λ y p. beats_from x y (record {
     left = chosen_label l x e;
     right = label_of l h y p;

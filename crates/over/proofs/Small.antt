@@ -1,6 +1,6 @@
 -- Where a list takes one more, it is short, and every label that is joined from two parts is small.
 use Rattle.std.proofs.Common.{◌≡◌, ℕ, ◌^◌, ◌<◌, ◌≤◌, true, false, eqb, List, length, get_or, IfSome, Some, None, Option, sym, ap, ◌∙◌, subst, arith}
-use Rattle.std.specs.List.{AllByRecursion as All}
+use Rattle.std.specs.List.{AllByRecursion}
 use Rattle.std.proofs.lemmas.Bool.{eqb-false}
 use Rattle.std.proofs.ByRecursion.{All-get_or}
 use Rattle.labels.specs.System.{System, Laws}
@@ -52,8 +52,8 @@ module _ (t : Two) (order count width : ℕ) (l : List ℕ) (b : Begun t order c
   room : length l < over_order o i
   room = omega (arith, (room_and_labels order count l (sym b.free)).0, b.order_is)
 
-  labels : All (λ y. y < over_count o i) l
-  labels = subst (λ n. All (λ y. y < n) l) b.count_is (room_and_labels order count l (sym b.free)).1
+  labels : AllByRecursion (λ y. y < over_count o i) l
+  labels = subst (λ n. AllByRecursion (λ y. y < n) l) b.count_is (room_and_labels order count l (sym b.free)).1
 
   fit : Fitting o i
   fit = room_fits o i lo li l room

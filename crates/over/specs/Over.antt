@@ -1,7 +1,7 @@
 -- One label system over another. In what follows the outer system o has order g and count G, the inner system i has
 -- order h and count H, and a label is outer part × H + inner part.
 use Rattle.std.specs.Prelude.{ℕ, ◌+◌, ◌-◌, ◌*◌, ◌/◌, ◌%◌, ◌^◌, ◌<◌, ◌≤◌, Bool, cond, not, ◌&&◌, ◌||◌, List, [], ◌∷◌, map, length, Some, None, filter, Option, ◌==◌, nat_eq, nat_le, nat_lt}
-use Rattle.std.specs.List.{AllByRecursion as All}
+use Rattle.std.specs.List.{AllByRecursion}
 use Rattle.labels.specs.System.{System}
 use Rattle.labels.specs.Plain.{every, takes_one_more}
 
@@ -53,9 +53,9 @@ over_beats o i a b =
 
 pub record OverLawful (o i : System) (l : List ℕ) : Type 0 where
   pub short : length l ≤ over_order o i
-  pub labels : All (λ x. x < over_count o i) l
+  pub labels : AllByRecursion (λ x. x < over_count o i) l
   pub outside : o.lawful (outer_parts i.count l)
-  pub inside : All (λ m. i.lawful (under i.count m l)) (outer_parts i.count l)
+  pub inside : AllByRecursion (λ m. i.lawful (under i.count m l)) (outer_parts i.count l)
 
 -- where m leads the outer parts: the group under m grows while it is not full, else the choice goes outward
 abbrev pub beside_leader : System → System → List ℕ → Option ℕ → Option ℕ

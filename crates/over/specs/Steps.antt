@@ -1,6 +1,6 @@
 -- What the choice of one system over another amounts to, above the steps by which it is defined.
 use Rattle.std.specs.Prelude.{◌≡◌, ℕ, ◌+◌, ◌*◌, ◌/◌, ◌%◌, ◌<◌, ◌≤◌, Bool, ◌↔◌, List, [], length, Some, Option, slice_index, slice_index_or}
-use Rattle.std.specs.List.{AllByRecursion as All}
+use Rattle.std.specs.List.{AllByRecursion}
 use Rattle.labels.specs.System.{System, LeadsAt}
 use Rattle.labels.specs.Plain.{Distinct}
 use Rattle.over.specs.Over.{outer_parts, under, over_order, over_count}
@@ -22,7 +22,7 @@ pub data Step (o i : System) (l : List ℕ) (x : ℕ) : Type 0 where
 
 pub record Chosen (o i : System) (l : List ℕ) (x : ℕ) : Type 0 where
   pub room : length l < over_order o i
-  pub labels : All (λ y. y < over_count o i) l
+  pub labels : AllByRecursion (λ y. y < over_count o i) l
   pub step : Step o i l x
 
 -- The choice r beside l is x exactly when one of the three steps gives x. The distinct outer parts are distinct, and

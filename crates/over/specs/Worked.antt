@@ -1,6 +1,6 @@
 -- Choices worked out by hand, as a table.
 use Rattle.std.specs.Prelude.{◌≡◌, ℕ, Bool, true, false, List, [], ◌∷◌, Some, None, Option}
-use Rattle.std.specs.List.{AllByRecursion as All}
+use Rattle.std.specs.List.{AllByRecursion}
 use Rattle.labels.specs.System.{System}
 use Rattle.labels.specs.Plain.{triangle, heptad, counter}
 use Rattle.over.specs.Over.{over}
@@ -53,4 +53,4 @@ by_hand =
     ∷ []
 
 abbrev pub Worked : Type 0
-Worked = All Holds by_hand
+Worked = AllByRecursion Holds by_hand

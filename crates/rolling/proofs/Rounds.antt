@@ -1,6 +1,6 @@
 -- The labels held in a rolling group stay lawful, so that every newcomer's label beats them.
 use Rattle.std.proofs.Common.{◌≡◌, ℕ, zero, suc, ◌+◌, ◌-◌, ◌<◌, ◌≤◌, true, List, [], ◌∷◌, ◌++◌, length, get_or, drop, Some, None, Option, sym, refl, ap, ◌∙◌, subst, inl, inr, add-one, arith}
-use Rattle.std.specs.List.{AllByRecursion as All}
+use Rattle.std.specs.List.{AllByRecursion}
 use Rattle.std.proofs.lemmas.List.{length-append, length-drop, drop-drop, drop-append-le, get_or-drop, get_or_append_left, get_or_at}
 use Rattle.std.proofs.ByRecursion.{All-get_or}
 use Rattle.std.proofs.lemmas.Bool.{cases_lt, cases_eq}
@@ -56,7 +56,7 @@ module _ (s : System) (laws : Laws s) where
   abbrev NewerBeats : List ℕ → Type 0
   NewerBeats given = (i j : ℕ) → i < j → j < length given → j < i + s.order → s.beats (get_or given j 0) (get_or given i 0) ≡ true
 
-  newest_beats : (given : List ℕ) (x : ℕ) → All (λ y. s.beats x y ≡ true) (held given) → (i : ℕ) → i < length given → length given < i + s.order → s.beats x (get_or given i 0) ≡ true
+  newest_beats : (given : List ℕ) (x : ℕ) → AllByRecursion (λ y. s.beats x y ≡ true) (held given) → (i : ℕ) → i < length given → length given < i + s.order → s.beats x (get_or given i 0) ≡ true
   newest_beats given x all i within near =
       let start : ℕ = length given - (s.order - 1) in
       let e : start + (i - start) ≡ i = omega arith in

@@ -8,7 +8,7 @@ use Rattle.station.specs.declared.refusal.Reason.TheVariants.{NoSuchSeat, MapToo
 use Rattle.station.specs.declared.row.Row.{Row}
 use Rattle.station.specs.Table.{Table, blank, seated, row_of, is_idle, is_holding, waiting_label, standing_label}
 use Rattle.station.specs.Questions.{Asked, ask, first_no}
-use Rattle.station.specs.Facts.{questions}
+use Rattle.station.specs.Facts.{questions_over}
 use Rattle.station.specs.Rules.{waiting_choice, standing_entries, questions as asked_of}
 use Rattle.station.specs.Told.{row_at, entries_beside, facts}
 use Rattle.search.specs.Search.{labels_in}
@@ -54,9 +54,9 @@ module _ (s : System) (t : Table) where
   over_table call = but_first (asked_of s t call)
 
   abbrev over_facts : Call → List Asked
-  over_facts call = but_first (questions (facts s t) call)
+  over_facts call = but_first (questions_over (facts s t) call)
 
-  pub asked_alike : (call : Call) → first_no (asked_of s t call) ≡ first_no (questions (facts s t) call)
+  pub asked_alike : (call : Call) → first_no (asked_of s t call) ≡ first_no (questions_over (facts s t) call)
   asked_alike (Open n) = refl
   asked_alike (Join seat) = after_seat t seat (over_table (Join seat)) (over_facts (Join seat)) (of_one is_idle NotIdle seat (ask (is_some (waiting_choice s t)) NoLabelLeft seat ∷ []))
   asked_alike (Leave seat) = after_seat t seat (over_table (Leave seat)) (over_facts (Leave seat)) (of_one waiting NotWaiting seat [])

@@ -1,5 +1,5 @@
 -- Every call is orderly: one row changes at most, and none where it is refused.
-use Rattle.std.proofs.Common.{◌≡◌, ℕ, zero, suc, ◌-◌, ◌≤◌, Bool, true, false, not, leb, eqb, ◌⊎◌, List, [], ◌∷◌, length, Some, None, Ok, Err, Option, is_some, sym, refl, ap, subst, inl, inr, arith}
+use Rattle.std.proofs.Common.{◌≡◌, ℕ, zero, suc, ◌-◌, ◌≤◌, Bool, true, false, not, leb, eqb, ◌⊎◌, List, [], ◌∷◌, length, Some, None, Option, is_some, sym, refl, subst, inl, inr, arith}
 use Rattle.std.proofs.lemmas.List.{length-set, get_or-set_other}
 use Rattle.std.proofs.lemmas.Bool.{and_parts, leb-true, eqb-false}
 use Rattle.labels.specs.System.{System}
@@ -12,10 +12,10 @@ use Rattle.station.specs.declared.refusal.Reason.{Reason}
 use Rattle.station.specs.declared.refusal.Reason.TheVariants.{NoSuchSeat, StartTaken, NobodyWaits}
 use Rattle.station.specs.declared.row.Row.{Row}
 use Rattle.station.specs.Table.{Table, blank, seated, with_row}
-use Rattle.station.specs.Facts.{Facts, questions}
+use Rattle.station.specs.Facts.{Facts, questions_over}
 use Rattle.station.specs.Questions.{Asked, ask, first_no, Reply, replied, settled}
 use Rattle.station.specs.Told.{row_at}
-use Rattle.station.specs.Rules.{waiting_entries, waiting_row, found_row, waiting_seat, line_tail, some_holds, answer, after, next, reply, Ran, questions as asked_of}
+use Rattle.station.specs.Rules.{waiting_entries, waiting_row, found_row, waiting_seat, line_tail, some_holds, answer, after, Ran, questions as asked_of}
 use Rattle.station.proofs.Asking.{but_first}
 use Rattle.station.specs.Orderly.{is_on, rise_from, Orderly}
 
@@ -73,27 +73,41 @@ seats_stay s t (Earlier first second) = inl refl
 seats_stay s t (Newer first second) = inl refl
 seats_stay s t (Label named) = inl refl
 
-by_rising_number : (call : Call) (f : Facts) → rise_from 1 (questions f call) ≡ true
-by_rising_number (Open n) f = refl
-by_rising_number (Join named) f = refl
-by_rising_number (Leave named) f = refl
-by_rising_number Start f = refl
-by_rising_number (Finish named) f = refl
-by_rising_number (Write named map) f = refl
-by_rising_number (Strike named) f = refl
-by_rising_number Read f = refl
-by_rising_number (Earlier first second) f = refl
-by_rising_number (Newer first second) f = refl
-by_rising_number (Label named) f = refl
+by_rising_number : (s : System) (call : Call) (t : Table) → rise_from 1 (asked_of s t call) ≡ true
+by_rising_number s (Open n) t = refl
+by_rising_number s (Join named) t = refl
+by_rising_number s (Leave named) t = refl
+by_rising_number s Start t = refl
+by_rising_number s (Finish named) t = refl
+by_rising_number s (Write named map) t = refl
+by_rising_number s (Strike named) t = refl
+by_rising_number s Read t = refl
+by_rising_number s (Earlier first second) t = refl
+by_rising_number s (Newer first second) t = refl
+by_rising_number s (Label named) t = refl
 
-settled_orderly : (s : System) (t : Table) (call : Call) (o : Option Refusal) → first_no (asked_of s t call) ≡ o → Orderly t (settled o t (after s t call)) call (replied o (answer s t call))
+over_facts_too : (call : Call) (f : Facts) → rise_from 1 (questions_over f call) ≡ true
+over_facts_too (Open n) f = refl
+over_facts_too (Join named) f = refl
+over_facts_too (Leave named) f = refl
+over_facts_too Start f = refl
+over_facts_too (Finish named) f = refl
+over_facts_too (Write named map) f = refl
+over_facts_too (Strike named) f = refl
+over_facts_too Read f = refl
+over_facts_too (Earlier first second) f = refl
+over_facts_too (Newer first second) f = refl
+over_facts_too (Label named) f = refl
+
+settled_orderly : (s : System) (t : Table) (call : Call) (o : Option Refusal) → first_no (asked_of s t call) ≡ o → Orderly s t (settled o t (after s t call)) call (replied o (answer s t call))
 settled_orderly s t call None accepted = record {
-  asked = by_rising_number call;
+  asked = by_rising_number s call;
+  asked_over = over_facts_too call;
   refused = λ e r. let z : ◌≡◌ {A = ℕ} 0 1 = cc in absurd (omega arith);
   others = λ a r seat e. let same : answer s t call ≡ a = cc in others_stay s t call seat accepted (subst (λ (x : Answer). is_on call x seat ≡ false) (sym same) e);
   seats = seats_stay s t call;
 }
-settled_orderly s t call (Some refusal) asked = record { asked = by_rising_number call; refused = λ e r. refl; others = λ a r seat e. refl; seats = inl refl }
+settled_orderly s t call (Some refusal) asked = record { asked = by_rising_number s call; asked_over = over_facts_too call; refused = λ e r. refl; others = λ a r seat e. refl; seats = inl refl }
 
-pub orderly : (s : System) (before now : Table) (call : Call) (r : Reply) → Ran s before now call r → Orderly before now call r
+pub orderly : (s : System) (before now : Table) (call : Call) (r : Reply) → Ran s before now call r → Orderly s before now call r
 orderly s before now call r ran = rw (ran.answers, ran.leaves) (settled_orderly s before call (first_no (asked_of s before call)) refl)

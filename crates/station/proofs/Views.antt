@@ -1,10 +1,9 @@
 -- The table is the first rows of the array.
-use Rattle.std.proofs.Common.{◌≡◌, ℕ, zero, suc, ◌-◌, ◌<◌, ◌≤◌, true, ◌&&◌, leb, List, [], ◌∷◌, length, get_or, take, set, None, sym, refl, ap, ◌∙◌, arith}
-use Rattle.std.proofs.lemmas.List.{length-take-le, get_or-take, map-set}
+use Rattle.std.proofs.Common.{◌≡◌, ℕ, zero, suc, ◌-◌, ◌<◌, ◌≤◌, true, ◌&&◌, leb, List, [], ◌∷◌, length, get_or, take, set, sym, refl, ap, ◌∙◌, arith}
+use Rattle.std.proofs.lemmas.List.{length-take-le, get_or-take}
 use Rattle.std.proofs.lemmas.Bool.{and_parts, leb-true, le-leb}
 use Rattle.station.specs.declared.row.Row.{Row}
-use Rattle.station.specs.Table.{Table, blank, seated, row_of, with_row, with_writing, standing_label}
-use Rattle.station.specs.Rules.{standing_entries}
+use Rattle.station.specs.Table.{blank, seated, row_of, with_row}
 
 module _ (n : ℕ) (rows : List Row) (few : n ≤ 20) (wide : length rows ≡ 20) where
   pub table_length : length (take n rows) ≡ n

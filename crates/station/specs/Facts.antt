@@ -27,37 +27,37 @@ abbrev pub is_seat : Facts → ℕ → Bool
 is_seat f seat = nat_le 1 seat && nat_le seat f.seats
 
 -- the questions put to each call
-abbrev pub questions : Facts → Call → List Asked
-questions f (Open n) =
+abbrev pub questions_over : Facts → Call → List Asked
+questions_over f (Open n) =
     ask (f.seats == 0) AlreadyOpen 0
     ∷ ask (nat_le 1 n && nat_le n 20) SeatCount 0
     ∷ ask (nat_le n f.order) OrderTooSmall 0
     ∷ []
-questions f (Join seat) =
+questions_over f (Join seat) =
     ask (is_seat f seat) NoSuchSeat seat
     ∷ ask (f.idle seat) NotIdle seat
     ∷ ask f.label_to_wait NoLabelLeft seat
     ∷ []
-questions f (Leave seat) = ask (is_seat f seat) NoSuchSeat seat ∷ ask (f.waits seat) NotWaiting seat ∷ []
-questions f Start = ask f.start_free StartTaken 0 ∷ ask f.has_tail NobodyWaits 0 ∷ []
-questions f (Finish seat) = ask (is_seat f seat) NoSuchSeat seat ∷ ask (f.holds seat) NotHolding seat ∷ []
-questions f (Write seat map) =
+questions_over f (Leave seat) = ask (is_seat f seat) NoSuchSeat seat ∷ ask (f.waits seat) NotWaiting seat ∷ []
+questions_over f Start = ask f.start_free StartTaken 0 ∷ ask f.has_tail NobodyWaits 0 ∷ []
+questions_over f (Finish seat) = ask (is_seat f seat) NoSuchSeat seat ∷ ask (f.holds seat) NotHolding seat ∷ []
+questions_over f (Write seat map) =
     ask (is_seat f seat) NoSuchSeat seat
     ∷ ask (nat_le map 65535) MapTooLarge seat
     ∷ ask (f.label_to_write seat) NoLabelLeft seat
     ∷ []
-questions f (Strike seat) = ask (is_seat f seat) NoSuchSeat seat ∷ ask (f.stands seat) NoWriting seat ∷ []
-questions f Read = ask f.has_head NothingStands 0 ∷ []
-questions f (Earlier first second) =
+questions_over f (Strike seat) = ask (is_seat f seat) NoSuchSeat seat ∷ ask (f.stands seat) NoWriting seat ∷ []
+questions_over f Read = ask f.has_head NothingStands 0 ∷ []
+questions_over f (Earlier first second) =
     ask (is_seat f first) NoSuchSeat first
     ∷ ask (is_seat f second) NoSuchSeat second
     ∷ ask (f.waits first) NotWaiting first
     ∷ ask (f.waits second) NotWaiting second
     ∷ []
-questions f (Newer first second) =
+questions_over f (Newer first second) =
     ask (is_seat f first) NoSuchSeat first
     ∷ ask (is_seat f second) NoSuchSeat second
     ∷ ask (f.stands first) NoWriting first
     ∷ ask (f.stands second) NoWriting second
     ∷ []
-questions f (Label seat) = ask (is_seat f seat) NoSuchSeat seat ∷ ask (f.stands seat) NoWriting seat ∷ []
+questions_over f (Label seat) = ask (is_seat f seat) NoSuchSeat seat ∷ ask (f.stands seat) NoWriting seat ∷ []

@@ -1,5 +1,6 @@
 -- In which order a call's questions are asked, and what it leaves alone, whatever the system and the table.
 use Rattle.std.specs.Prelude.{◌≡◌, ℕ, Bool, true, false, ◌&&◌, ◌⊎◌, List, [], ◌∷◌, length, Ok, Err, ◌==◌, nat_le}
+use Rattle.labels.specs.System.{System}
 use Rattle.station.specs.declared.call.Call.{Call}
 use Rattle.station.specs.declared.call.Call.TheVariants.{Open, Join, Leave, Start, Finish, Write, Strike, Read, Earlier, Newer, Label}
 use Rattle.station.specs.declared.answer.Answer.{Answer}
@@ -9,7 +10,8 @@ use Rattle.station.specs.Table.{Table}
 use Rattle.station.specs.Told.{row_at}
 use Rattle.station.specs.Numbers.{number}
 use Rattle.station.specs.Questions.{Asked, Reply}
-use Rattle.station.specs.Facts.{Facts, questions}
+use Rattle.station.specs.Facts.{Facts, questions_over}
+use Rattle.station.specs.Rules.{questions}
 
 -- whether a start went to this seat
 abbrev pub starts : Answer → ℕ → Bool
@@ -38,9 +40,10 @@ abbrev pub rise_from : ℕ → List Asked → Bool
 rise_from n [] = true
 rise_from n (q ∷ qs) = nat_le n (number q.reason) && rise_from (number q.reason) qs
 
-pub record Orderly (before now : Table) (call : Call) (r : Reply) : Type 0 where
-  -- the questions are asked by rising number
-  pub asked : (f : Facts) → rise_from 1 (questions f call) ≡ true
+pub record Orderly (s : System) (before now : Table) (call : Call) (r : Reply) : Type 0 where
+  -- the questions are asked by rising number, whatever the table and the facts
+  pub asked : (t : Table) → rise_from 1 (questions s t call) ≡ true
+  pub asked_over : (f : Facts) → rise_from 1 (questions_over f call) ≡ true
   -- a refusal leaves everything as it was
   pub refused : (e : Refusal) → r ≡ Err e → now ≡ before
   -- a call on one seat leaves every other row as it was

@@ -13,7 +13,7 @@ impl<S: LabelSystem> Station<S> {
     /// Puts any of the calls to the station.
     pub fn serve(&mut self, call: Call) -> Result<Answer, Refusal>
         ensures ran { Ran (S.LabelSystem.meaning self.old.system) (table self.old) (table self.new) call result }
-        ensures orderly { Orderly (table self.old) (table self.new) call result }
+        ensures orderly { Orderly (S.LabelSystem.meaning self.old.system) (table self.old) (table self.new) call result }
         ensures system { self.new.system ≡ self.old.system }
     {
         self.dispatch(call)

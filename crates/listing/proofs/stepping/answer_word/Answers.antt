@@ -1,5 +1,5 @@
 -- What comes of the call comes of the word that holds it.
-use Rattle.std.proofs.Common.{◌≡◌, Some, Err, sym, refl, ap, ◌∙◌}
+use Rattle.std.proofs.Common.{◌≡◌, Some, Err, sym, ap, ◌∙◌}
 use Rattle.std.proofs.lemmas.Result.{err_from_is_err_and}
 use Rattle.station.specs.View.{table}
 use Rattle.trace.specs.declared.fault.WordFault.TheVariants.{NotACall}

@@ -1,6 +1,5 @@
 -- The labels gathered are those of the other seats' writings.
 use Rattle.std.proofs.Common.{◌-◌, length, refl, ap, ◌∙◌, arith}
-use Rattle.search.specs.Search.{labels_in}
 use Rattle.search.specs.declared.writing_row.WritingRow.{WritingRow}
 use Rattle.station.specs.Table.{blank, standing_label}
 use Rattle.station.specs.Rules.{writing_row}
