@@ -2,7 +2,7 @@
 
 #![tactic(auto)]
 
-mod over;
+mod composed;
 mod steps;
 
-pub use over::Over;
+pub use composed::Over;

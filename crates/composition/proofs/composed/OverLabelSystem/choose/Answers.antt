@@ -2,7 +2,7 @@
 use Rattle.labels.proofs.Exact.{with_law}
 use Rattle.over.specs.Steps.{ChoosesByStep}
 use Rattle.over.proofs.ByStep.{chooses_by_step}
-use Rattle.composition.proofs.over.OverLabelSystem.choose.Goals as goal
+use Rattle.composition.proofs.composed.OverLabelSystem.choose.Goals as goal
 
 pub returns : goal.returns
 returns g c =

@@ -2,8 +2,8 @@
 use Rattle.std.proofs.Common.{Some}
 use Rattle.over.proofs.Small.{Two, Begun, begun, chosen_part, short_and_wide, joined_small, leader_part}
 use Rattle.labels.specs.ShortList.{listed}
-use Rattle.composition.proofs.over.Over.by_parts.Given as given
-use Rattle.composition.proofs.over.Over.by_parts.Goals as goal
+use Rattle.composition.proofs.composed.Over.by_parts.Given as given
+use Rattle.composition.proofs.composed.Over.by_parts.Goals as goal
 
 abbrev two : (g : given.Over) → g.row.O.Denot → g.row.I.Denot → Two
 two g a b = record { o = g.O.LabelSystem.meaning a; i = g.I.LabelSystem.meaning b; lo = g.met.O.LabelSystem.shows a; li = g.met.I.LabelSystem.shows b }
