@@ -1,4 +1,4 @@
--- What the questions are about, and the questions put to each call. A station's table tells these facts, and so does its
+-- What the questions are about, and the questions put over that. A station's table tells these facts, and so does its
 -- history.
 use Rattle.std.specs.Prelude.{ℕ, Bool, ◌&&◌, List, [], ◌∷◌, ◌==◌, nat_le}
 use Rattle.station.specs.declared.call.Call.{Call}
@@ -26,7 +26,7 @@ pub record Facts : Type 0 where
 abbrev pub is_seat : Facts → ℕ → Bool
 is_seat f seat = nat_le 1 seat && nat_le seat f.seats
 
--- the questions put to each call
+-- the rules' questions to each call, put over facts
 abbrev pub questions_over : Facts → Call → List Asked
 questions_over f (Open n) =
     ask (f.seats == 0) AlreadyOpen 0
