@@ -2,12 +2,8 @@
 
 #![tactic(auto)]
 
-mod pile1;
-mod pile2;
-mod pile3;
-mod pile4;
+mod pile;
+mod ready;
 
-pub use pile1::Pile1;
-pub use pile2::Pile2;
-pub use pile3::Pile3;
-pub use pile4::Pile4;
+pub use pile::{Pile, Shipped};
+pub use ready::{Pile1, Pile2, Pile3, Pile4};
