@@ -19,7 +19,7 @@ pub trait Shipped: LabelSystem + Copy {
 
     /// The one system of its type that ships.
     fn shipped() -> Self
-        ensures { AnswersAs (Self.LabelSystem.meaning result) pile };
+        ensures { AnswersAs (Self.meaning result) pile };
 
     ghost shows: { Laws pile };
 
@@ -29,7 +29,7 @@ pub trait Shipped: LabelSystem + Copy {
 /// A pile: a label system that ships ready.
 pub struct Pile<S: Shipped> {
     system: S,
-    ghost as_shipped: { AnswersAs (S.LabelSystem.meaning system) S.pile },
+    ghost as_shipped: { AnswersAs (S.meaning system) S.pile },
 }
 
 impl<S: Shipped> Clone for Pile<S> {

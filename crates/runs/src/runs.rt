@@ -22,8 +22,8 @@ pub fn run<S: LabelSystem + Drop>(
     system: S,
     calls: &[Call],
 ) -> Result<Vec<Result<Answer, Refusal>>, AllocError>
-    ensures replies { IfOk result (λ given. given.items ≡ life (S.LabelSystem.meaning system) calls.now) }
-    ensures promised { Promised (S.LabelSystem.meaning system) (S.LabelSystem.meaning system) }
+    ensures replies { IfOk result (λ given. given.items ≡ life (S.meaning system) calls.now) }
+    ensures promised { Promised (S.meaning system) (S.meaning system) }
 {
     life_of(heap, system, calls)
 }
@@ -36,9 +36,9 @@ pub fn run_both<S: LabelSystem + Drop, U: LabelSystem + Drop>(
     second: U,
     calls: &[Call],
 ) -> Result<Both, AllocError>
-    ensures first { IfOk result (λ both. both.first.items ≡ life (S.LabelSystem.meaning first) calls.now) }
-    ensures second { IfOk result (λ both. both.second.items ≡ life (U.LabelSystem.meaning second) calls.now) }
-    ensures promised { Promised (S.LabelSystem.meaning first) (U.LabelSystem.meaning second) }
+    ensures first { IfOk result (λ both. both.first.items ≡ life (S.meaning first) calls.now) }
+    ensures second { IfOk result (λ both. both.second.items ≡ life (U.meaning second) calls.now) }
+    ensures promised { Promised (S.meaning first) (U.meaning second) }
 {
     lives_of(heap, first, second, calls)
 }
@@ -59,8 +59,8 @@ fn lives_of<S: LabelSystem + Drop, U: LabelSystem + Drop>(
     second: U,
     calls: &[Call],
 ) -> Result<Both, AllocError>
-    ensures first { IfOk result (λ both. both.first.items ≡ life (S.LabelSystem.meaning first) calls.now) }
-    ensures second { IfOk result (λ both. both.second.items ≡ life (U.LabelSystem.meaning second) calls.now) }
+    ensures first { IfOk result (λ both. both.first.items ≡ life (S.meaning first) calls.now) }
+    ensures second { IfOk result (λ both. both.second.items ≡ life (U.meaning second) calls.now) }
 {
     let first = life_of(heap, first, calls)?;
     let second = life_of(heap, second, calls)?;

@@ -12,7 +12,7 @@ pub(crate) fn life_of<S: LabelSystem + Drop>(
     system: S,
     calls: &[Call],
 ) -> Result<Vec<Result<Answer, Refusal>>, AllocError>
-    ensures { IfOk result (λ given. given.items ≡ life (S.LabelSystem.meaning system) calls.now) }
+    ensures { IfOk result (λ given. given.items ≡ life (S.meaning system) calls.now) }
 {
     let mut station = Station::new(system);
     serve_all(heap, &mut station, calls)
@@ -24,7 +24,7 @@ fn serve_all<S: LabelSystem>(
     station: &mut Station<S>,
     calls: &[Call],
 ) -> Result<Vec<Result<Answer, Refusal>>, AllocError>
-    ensures { IfOk result (λ given. given.items ≡ replies (S.LabelSystem.meaning station.old.system) (table station.old) calls.now) }
+    ensures { IfOk result (λ given. given.items ≡ replies (S.meaning station.old.system) (table station.old) calls.now) }
 {
     let mut given = Vec::new(heap);
     for call in calls {
