@@ -5,7 +5,7 @@ use Rattle.std.proofs.lemmas.Bool.{cases_eq, cond-true, cond-false, cond_both, b
 use Rattle.labels.specs.System.{Laws}
 use Rattle.labels.specs.Least.{LeastChosen, NothingChosen, no_winner, ChoosesLeast, AheadBySquare}
 use Rattle.labels.specs.Plain.{ahead, paley, bounded, takes_one_more, beats_all, least_from, heptad_choice, heptad}
-use Rattle.labels.proofs.Walks.{all_from_every, every_from_all, room_and_labels, takes_from}
+use Rattle.labels.proofs.Walks.{all_from_tests, tests_from_all, room_and_labels, takes_from}
 use Rattle.labels.proofs.Exact.{exactly, nothing_without_room}
 use Rattle.labels.proofs.Chains.{given_from_least, lawful_plain}
 
@@ -74,13 +74,13 @@ heptad_least l =
     (cond_both (takes_one_more 3 7 l) (least_from beats7 l 7 0) None (λ r. MatchOption r (NothingChosen heptad l) (LeastChosen heptad l)) (λ t. found (least_from beats7 l 7 0) (room_and_labels 3 7 l t) (least_from_right beats7 l 7 0)) (nothing_without_room heptad l))
   where
     found : (r : Option ℕ) → (length l < 3) × AllByRecursion (λ y. y < 7) l → MatchOption r ((z : ℕ) → 0 ≤ z → z < 0 + 7 → beats_all beats7 z l ≡ true → ⊥) (λ x. (x < 0 + 7) × (beats_all beats7 x l ≡ true) × ((z : ℕ) → 0 ≤ z → z < x → beats_all beats7 z l ≡ true → ⊥)) → MatchOption r (NothingChosen heptad l) (LeastChosen heptad l)
-    found None free h = no_winner (λ z lt b. h z (omega arith) (omega arith) (every_from_all (beats7 z) l b))
+    found None free h = no_winner (λ z lt b. h z (omega arith) (omega arith) (tests_from_all (beats7 z) l b))
     found (Some x) free h = record {
       room = free.0;
       labels = free.1;
       label = omega (arith, h.0);
-      beats_all = all_from_every (beats7 x) l h.1;
-      least = λ z lt b. h.2 z (omega arith) lt (every_from_all (beats7 z) l b);
+      beats_all = all_from_tests (beats7 x) l h.1;
+      least = λ z lt b. h.2 z (omega arith) lt (tests_from_all (beats7 z) l b);
     }
 
 -- a test of all numbers below n, computed
