@@ -1,20 +1,11 @@
 -- Tests of every entry of a list, as a walk over the list makes them.
-use Rattle.std.proofs.Common.{◌≡◌, ℕ, suc, ◌+◌, ◌<◌, ◌≤◌, Bool, true, false, ◌&&◌, ltb, List, [], ◌∷◌, length, get_or, drop, sym, ap, ◌∙◌, inl, inr, arith}
+use Rattle.std.proofs.Common.{◌≡◌, ℕ, suc, ◌<◌, ◌≤◌, Bool, true, false, ◌&&◌, ltb, List, [], ◌∷◌, length, get_or, sym, ap, ◌∙◌, inl, inr, arith}
 use Rattle.std.specs.List.{AllByRecursion, list_all}
-use Rattle.std.proofs.lemmas.List.{at_drop_more}
 use Rattle.std.proofs.lemmas.List.Elements.{All-from_recursion, recursion_from_All}
 use Rattle.std.proofs.lemmas.List.Sums.{AllPass-from_list_all, list_all-from_AllPass}
 use Rattle.std.proofs.ByRecursion.{All-weaker}
 use Rattle.std.proofs.lemmas.Bool.{lt-ltb, ltb-true, ltb-false, and_parts, and_from, cases_Bool}
 use Rattle.labels.specs.Plain.{all_below, takes_one_more}
-
--- an entry that passes leaves the test to the entries after it, and one that fails settles it
-module _ (test : ℕ → Bool) (xs : List ℕ) (i : ℕ) (within : i < length xs) where
-  pub every_passed : test (get_or xs i 0) ≡ true → list_all test (drop (i + 1) xs) ≡ list_all test (drop i xs)
-  every_passed t = sym (at_drop_more (list_all test) xs i 0 within ∙ ap (λ b. b && list_all test (drop (i + 1) xs)) t)
-
-  pub every_settled : test (get_or xs i 0) ≡ false → list_all test (drop i xs) ≡ false
-  every_settled f = at_drop_more (list_all test) xs i 0 within ∙ ap (λ b. b && list_all test (drop (i + 1) xs)) f
 
 pub all_from_tests : (test : ℕ → Bool) (l : List ℕ) → list_all test l ≡ true → AllByRecursion (λ x. test x ≡ true) l
 all_from_tests test l e = recursion_from_All _ l (AllPass-from_list_all test l e)

@@ -9,6 +9,12 @@ pub struct Size {
 }
 
 impl Size {
+    /// The largest order that a label system may have.
+    pub const MAX_ORDER: u8 = 20;
+
+    /// The largest count: labels fit 28 bits.
+    pub const MAX_COUNT: u32 = 0x1000_0000;
+
     /// Whether a newcomer may be given a label beside `labels`: there are fewer than `order`, and each is below `count`.
     pub fn takes_one_more(&self, labels: &[u32]) -> bool
         ensures { result ≡ takes_one_more self.now.order self.now.count labels.now }
