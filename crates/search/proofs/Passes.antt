@@ -2,17 +2,10 @@
 use Rattle.std.proofs.Common.{◌≡◌, ℕ, ◌+◌, ◌<◌, ◌≤◌, Bool, true, false, eqb, List, map, length, get_or, Some, None, Option, sym, ap, ◌∙◌, subst, inl, inr, arith, MatchOption}
 use Rattle.std.proofs.lemmas.List.{get_or-map, get_or_past}
 use Rattle.std.proofs.lemmas.Bool.{cases_eq, cases_lt, both_ways, cond_both, or_cases, or_parts, eqb-true, eqb-false}
-use Rattle.labels.specs.System.{System, Laws}
 use Rattle.std.proofs.lemmas.Option.{none-some, same_Some}
 use Rattle.search.specs.Search.{LeadsFrom}
-use Rattle.search.specs.Sides.{leads_by, next_best, led_by, OnlyCandidate, Narrows}
+use Rattle.search.specs.Candidates.{next_best, led_by, OnlyCandidate, Narrows}
 use Rattle.search.specs.declared.search.Candidate.{Candidate}
-use Rattle.search.specs.declared.search.Side.{Side}
-use Rattle.search.specs.declared.search.Side.TheVariants.{Head, Tail}
-
-pub one_way_by : (side : Side) (s : System) → Laws s → (a b : ℕ) → leads_by side s a b ≡ true → leads_by side s b a ≡ true → ⊥
-one_way_by Head s laws a b = laws.one_way a b
-one_way_by Tail s laws a b = laws.one_way b a
 
 -- what the list of labels has at a place that a walk has come to
 pub label_at : {X : Type 0} (f : X → Option ℕ) (xs : List X) (i : ℕ) (x : X) → i < length xs → x ≡ get_or xs i x → get_or (map f xs) i None ≡ f x

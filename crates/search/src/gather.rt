@@ -1,5 +1,4 @@
 ghost use Rattle.std.specs.Prelude.{◌≡◌, map, take};
-ghost use Rattle.labels.specs.ShortList.{listed};
 ghost use Rattle.search.specs.Search.{labels_in};
 
 use super::entry::Entry;
@@ -7,7 +6,7 @@ use labels::ShortList;
 
 /// The labels that entries tell, in their order; of more than twenty the first twenty.
 pub fn labels_in<E: Entry>(entries: &[E]) -> ShortList
-    ensures { listed result ≡ take 20 (labels_in (map E.labelled entries.now)) }
+    ensures { result ≡ take 20 (labels_in (map E.labelled entries.now)) }
 {
     let mut found = ShortList::new();
     for entry in entries {

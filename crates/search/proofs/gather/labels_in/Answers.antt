@@ -1,7 +1,6 @@
 -- Each turn gathers a label, or passes an entry without one.
 use Rattle.std.proofs.Common.{map, take, sym, ap, ◌∙◌}
 use Rattle.std.proofs.lemmas.List.{take_all}
-use Rattle.labels.specs.ShortList.{listed}
 use Rattle.search.specs.Search.{labels_in}
 use Rattle.search.proofs.Gathers.{gathered, passed}
 use Rattle.search.proofs.gather.labels_in.Goals as goal
@@ -11,8 +10,8 @@ pub loop-entry-preserved : goal.loop-entry-preserved
 loop-entry-preserved g c =
     let f = g.E.Entry.labelled in
     elim c.match-label.branch [
-      | in-Some w ↦ gathered f c.args.entries.now c.loop-entry.entry-index c.entry-item.result c.loop-entry-test.true c.entry-item.is (listed c.loop-entry.found) (listed c.match-label.found) c.loop-entry.invariant w.in-Some.label (sym c.label.ensures ∙ w.in-Some.is) (ap listed w.found-is ∙ w.push.ensures)
-      | in_default w ↦ passed f c.args.entries.now c.loop-entry.entry-index c.entry-item.result c.loop-entry-test.true c.entry-item.is (listed c.loop-entry.found) (listed c.match-label.found) c.loop-entry.invariant (sym c.label.ensures ∙ w.in_default.is) (ap listed w.found-is)
+      | in-Some w ↦ gathered f c.args.entries.now c.loop-entry.entry-index c.entry-item.result c.loop-entry-test.true c.entry-item.is c.loop-entry.found c.match-label.found c.loop-entry.invariant w.in-Some.label (sym c.label.ensures ∙ w.in-Some.is) (w.found-is ∙ w.push.ensures)
+      | in_default w ↦ passed f c.args.entries.now c.loop-entry.entry-index c.entry-item.result c.loop-entry-test.true c.entry-item.is c.loop-entry.found c.match-label.found c.loop-entry.invariant (sym c.label.ensures ∙ w.in_default.is) w.found-is
     ]
 
 pub returns : goal.returns
