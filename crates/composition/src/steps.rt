@@ -57,6 +57,7 @@ fn leads<S: LabelSystem>(system: &S, parts: &[u32], place: usize) -> bool
     requires { place < length parts.now }
     ensures { (result ≡ true) ↔ LeadsAt (S.meaning system.now).beats parts.now place }
 {
+    // By `for`, and not by `all`: the walk for the leader and this one go over the same places.
     for (k, part) in parts.iter().enumerate() {
         if k != place && !system.beats(parts[place], *part) {
             return false;
@@ -77,6 +78,7 @@ pub(crate) fn joined(width: u32, outer: Option<u32>, inner: Option<u32>) -> Opti
     requires { IfSome (joined width outer inner) (λ x. x < 2 ^ 28) }
     ensures { result ≡ joined width outer inner }
 {
+    // By `let .. else`, a line of its own for each choice that may be none.
     let Some(a) = outer else {
         return None;
     };

@@ -7,9 +7,9 @@ use Rattle.search.specs.Search.{LeadsFrom}
 use Rattle.search.specs.Candidates.{next_best, led_by, OnlyCandidate, Narrows}
 use Rattle.search.specs.declared.search.Candidate.{Candidate}
 
--- what the list of labels has at a place that a walk has come to
-pub label_at : {X : Type 0} (f : X → Option ℕ) (xs : List X) (i : ℕ) (x : X) → i < length xs → x ≡ get_or xs i x → get_or (map f xs) i None ≡ f x
-label_at f xs i x lt is = get_or-map f xs i x None lt ∙ ap f (sym is)
+-- what the list of labels has at a place that a walk has come to, where the entry x told r
+pub label_at : {X : Type 0} (f : X → Option ℕ) (xs : List X) (i : ℕ) (x : X) (r : Option ℕ) → i < length xs → x ≡ get_or xs i x → r ≡ f x → get_or (map f xs) i None ≡ r
+label_at f xs i x r lt is told = get_or-map f xs i x None lt ∙ ap f (sym is) ∙ sym told
 
 pub labelled_inside : (ls : List (Option ℕ)) (q b : ℕ) → get_or ls q None ≡ Some b → q < length ls
 labelled_inside ls q b e = elim (cases_lt q (length ls)) [ inl lt ↦ lt | inr ge ↦ absurd (none-some b (sym (get_or_past ls q None ge) ∙ e)) ]

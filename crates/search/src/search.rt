@@ -41,7 +41,6 @@ fn leading<L: Leads, E: Entry>(by: &L, entries: &[E]) -> Option<usize>
 }
 
 /// The one place that can lead all others.
-#[tactic(auto, using(crate::proofs::Passes::label_at, crate::proofs::Passes::next_turn))]
 fn narrow<L: Leads, E: Entry>(by: &L, entries: &[E]) -> Option<Candidate>
     ensures { Narrows (L.relation by.now) (map E.labelled entries.now) result }
 {
@@ -75,6 +74,7 @@ fn leads_others<L: Leads, E: Entry>(by: &L, entries: &[E], found: Candidate) -> 
     requires { OnlyCandidate (L.relation by.now) (map E.labelled entries.now) found }
     ensures { MatchBool result (LeadsFrom (L.relation by.now) (map E.labelled entries.now) found.place) ((p : ℕ) → LeadsFrom (L.relation by.now) (map E.labelled entries.now) p → ⊥) }
 {
+    // By `for`, and not by `all`: both passes walk the places with their entries.
     for (other, entry) in entries.iter().enumerate() {
         if !is_led(by, found, other, entry.label()) {
             return false;

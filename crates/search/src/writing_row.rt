@@ -1,5 +1,6 @@
 use super::entry::Entry;
 
+// No generic row for this one and the waiting row: `Row<()>` and `Row<u16>` would not say what they are.
 /// A seat with its standing writing, a map number and its label, or without one.
 #[derive(Clone, Copy, Default, PartialEq, Eq, Debug)]
 pub struct WritingRow {
