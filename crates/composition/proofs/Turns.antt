@@ -1,52 +1,66 @@
 -- One turn of the walks that collect parts of labels.
-use Rattle.std.proofs.Common.{◌≡◌, ℕ, ◌+◌, ◌/◌, ◌<◌, ◌≤◌, true, false, ◌↔◌, List, [], ◌∷◌, ◌++◌, length, get_or, take, sym, refl, ap, ◌∙◌, subst, inl, inr, arith}
-use Rattle.std.proofs.lemmas.List.{length_push}
-use Rattle.std.proofs.lemmas.Bool.{cases_lt, both_ways}
+use Rattle.std.proofs.Common.{◌≡◌, ℕ, ◌+◌, ◌/◌, ◌%◌, ◌<◌, ◌≤◌, Bool, true, false, not, eqb, List, [], ◌∷◌, ◌++◌, map, length, get_or, take, filter, sym, refl, ap, ◌∙◌, subst, inl, inr, arith}
+use Rattle.std.specs.List.{list_any}
+use Rattle.std.proofs.lemmas.List.{length-map, length-take-le, take_all}
+use Rattle.std.proofs.lemmas.List.Sums.{length-filter, count_by-le-length}
+use Rattle.std.proofs.lemmas.Bool.{false≢true, or_cases, or_parts, eqb-true, eqb-false}
 use Rattle.labels.specs.Plain.{Distinct}
-use Rattle.labels.proofs.Tally.{tally, tally_at, place_of}
+use Rattle.labels.proofs.Tally.{tally, one_is, one_other}
 use Rattle.labels.proofs.Shorts.{pushed_whole}
 use Rattle.labels.proofs.Chains.{distinct_from_once}
-use Rattle.over.specs.Over.{outer_parts}
+use Rattle.over.specs.Over.{firsts, outer_parts, under}
 use Rattle.over.proofs.Parts.{outer_once}
-use Rattle.over.proofs.Walks.{outer_more, outer_same}
+use Rattle.over.proofs.Walks.{outer_more, outer_same, under_more, under_same}
 
--- what was collected grows as the definition does, and is never longer than what was walked
-module _ (i : ℕ) (old new before after : List ℕ) (so_far : old ≡ before) (short : length old ≤ i) where
-  pub collected : i < 20 → (y : ℕ) → new ≡ take 20 (old ++ y ∷ []) → after ≡ before ++ y ∷ [] → (new ≡ after) × (length new ≤ i + 1)
-  collected lt y n a =
-      let whole = n ∙ pushed_whole old y (omega arith) in
-      (whole ∙ ap (λ l. l ++ y ∷ []) so_far ∙ sym a, omega (arith, ap length whole, length_push old y))
+-- what was collected is never longer than what was walked
+kept_short : (p : ℕ → Bool) (l : List ℕ) → length (filter p l) ≤ length l
+kept_short p l = omega (arith, length-filter p l, count_by-le-length p l)
 
-  pub passed : new ≡ old → after ≡ before → (new ≡ after) × (length new ≤ i + 1)
-  passed n a = (n ∙ so_far ∙ sym a, omega (arith, ap length n))
+firsts_short : (l : List ℕ) → length (firsts l) ≤ length l
+firsts_short [] = omega arith
+firsts_short (x ∷ xs) = omega (arith, firsts_short xs, kept_short (λ y. not (eqb y x)) (firsts xs))
 
--- a part that is held, or is not, by what the search for it answered
-Held : List ℕ → ℕ → Type 0
-Held l x = (k : ℕ) × (k < length l) × (get_or l k 0 ≡ x)
+-- a number that a list has, or has not, by the test for it
+has_not : (l : List ℕ) (x : ℕ) → list_any (λ y. eqb y x) l ≡ false → tally x l ≡ 0
+has_not [] x e = refl
+has_not (y ∷ ys) x e =
+    let p = or_parts (eqb y x) (list_any (λ y. eqb y x) ys) e in
+    omega (arith, one_other y x (eqb-false y x p.0), has_not ys x p.1)
 
-held_tally : (l : List ℕ) (x : ℕ) → Held l x → 0 < tally x l
-unfolding Held
-held_tally l x h = subst (λ z. 0 < tally z l) h.2 (tally_at l h.0 h.1)
+has : (l : List ℕ) (x : ℕ) → list_any (λ y. eqb y x) l ≡ true → 0 < tally x l
+has [] x e = absurd (false≢true e)
+has (y ∷ ys) x e =
+    elim (or_cases (eqb y x) (list_any (λ y. eqb y x) ys) e) [
+      | inl t ↦ omega (arith, one_is y x (eqb-true y x t))
+      | inr t ↦ omega (arith, has ys x t)
+    ]
 
-not_held_tally : (l : List ℕ) (x : ℕ) → (Held l x → ⊥) → tally x l ≡ 0
-unfolding Held
-not_held_tally l x h = elim (cases_lt 0 (tally x l)) [ inl p ↦ absurd (h (place_of x l p)) | inr z ↦ omega arith ]
+module _ (n : ℕ) (xs : List ℕ) (i : ℕ) (within : i < length xs) (few : length xs ≤ 20) (old new : List ℕ) where
+  taken : length (take i xs) ≡ i
+  taken = length-take-le i xs (omega arith)
 
-module _ (n : ℕ) (xs : List ℕ) (i : ℕ) (within : i < length xs) (slice old new : List ℕ) (is : slice ≡ old) (so_far : old ≡ outer_parts n (take i xs)) (short : length old ≤ i) where
-  abbrev part : ℕ
-  part = get_or xs i 0 / n
+  pub new_part : old ≡ outer_parts n (take i xs) → list_any (λ y. eqb y (get_or xs i 0 / n)) old ≡ false → new ≡ take 20 (old ++ get_or xs i 0 / n ∷ []) → new ≡ outer_parts n (take (i + 1) xs)
+  new_part so_far none grown =
+      let short : length old < 20 = omega (arith, ap length so_far, firsts_short (map (λ x. x / n) (take i xs)), length-map (take i xs) (λ x. x / n), taken) in
+      let more = outer_more n xs i within (subst (λ l. tally (get_or xs i 0 / n) l ≡ 0) so_far (has_not old (get_or xs i 0 / n) none)) in
+      grown ∙ pushed_whole old (get_or xs i 0 / n) short ∙ ap (λ l. l ++ get_or xs i 0 / n ∷ []) so_far ∙ sym more
 
-  pub new_part : (false ≡ true) ↔ ((k : ℕ) × (k < length slice) × (get_or slice k 0 ≡ part)) → i < 20 → new ≡ take 20 (old ++ part ∷ []) → (new ≡ outer_parts n (take (i + 1) xs)) × (length new ≤ i + 1)
-  unfolding Held
-  new_part h lt grown =
-      collected i old new (outer_parts n (take i xs)) (outer_parts n (take (i + 1) xs)) so_far short lt part grown
-      (outer_more n xs i within (subst (λ l. tally part l ≡ 0) (is ∙ so_far) (not_held_tally slice part (λ k. both_ways false refl (h.1 k)))))
+  pub old_part : old ≡ outer_parts n (take i xs) → list_any (λ y. eqb y (get_or xs i 0 / n)) old ≡ true → new ≡ old → new ≡ outer_parts n (take (i + 1) xs)
+  old_part so_far here same = same ∙ so_far ∙ sym (outer_same n xs i within (subst (λ l. 0 < tally (get_or xs i 0 / n) l) so_far (has old (get_or xs i 0 / n) here)))
 
-  pub old_part : (true ≡ true) ↔ ((k : ℕ) × (k < length slice) × (get_or slice k 0 ≡ part)) → new ≡ old → (new ≡ outer_parts n (take (i + 1) xs)) × (length new ≤ i + 1)
-  unfolding Held
-  old_part h same =
-      passed i old new (outer_parts n (take i xs)) (outer_parts n (take (i + 1) xs)) so_far short same
-      (outer_same n xs i within (subst (λ l. 0 < tally part l) (is ∙ so_far) (held_tally slice part (h.0 refl))))
+  pub one_under : (m : ℕ) → old ≡ under n m (take i xs) → get_or xs i 0 / n ≡ m → new ≡ take 20 (old ++ get_or xs i 0 % n ∷ []) → new ≡ under n m (take (i + 1) xs)
+  one_under m so_far here grown =
+      let kept = filter (λ x. eqb (x / n) m) (take i xs) in
+      let short : length old < 20 = omega (arith, ap length so_far, length-map kept (λ x. x % n), kept_short (λ x. eqb (x / n) m) (take i xs), taken) in
+      grown ∙ pushed_whole old (get_or xs i 0 % n) short ∙ ap (λ l. l ++ get_or xs i 0 % n ∷ []) so_far ∙ sym (under_more n xs i within m here)
+
+  pub none_under : (m : ℕ) → old ≡ under n m (take i xs) → (get_or xs i 0 / n ≡ m → ⊥) → new ≡ old → new ≡ under n m (take (i + 1) xs)
+  none_under m so_far other same = same ∙ so_far ∙ sym (under_same n xs i within m other)
 
 pub parts_distinct : (n : ℕ) (xs l : List ℕ) → l ≡ outer_parts n xs → Distinct l
 parts_distinct n xs l e = subst Distinct (sym e) (distinct_from_once (outer_parts n xs) (λ y. outer_once n y xs))
+
+-- the turns of the two walks, and their ends
+pub ruleset outer_turns = (new_part, old_part, take_all, parts_distinct)
+
+pub ruleset inner_turns = (one_under, none_under, take_all)

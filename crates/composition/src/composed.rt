@@ -4,11 +4,7 @@ ghost use Rattle.over.specs.Steps.{ChoosesByStep};
 ghost use Rattle.over.proofs.OverLaws.{over_laws};
 
 use super::steps::{can_grow, inner_parts, joined, leader, outer_parts};
-use labels::{LabelSystem, takes_one_more};
-
-const MAX_ORDER: u8 = 20;
-
-const MAX_COUNT: u64 = 0x1000_0000;
+use labels::{LabelSystem, Size};
 
 /// One label system over another. A label is its outer part times the inner count, plus its inner part.
 #[derive(Clone, Copy)]
@@ -17,17 +13,10 @@ pub struct Over<O, I> {
     pub inner: I,
 }
 
-/// How many parties a composition serves, and how many labels it has.
-#[derive(Drop)]
-struct Size {
-    order: u8,
-    count: u32,
-}
-
 impl<O: LabelSystem, I: LabelSystem> LabelSystem for Over<O, I> {
-    ghost meaning = { λ s. over (O.LabelSystem.meaning s.outer) (I.LabelSystem.meaning s.inner) };
+    ghost meaning = { λ s. over (O.meaning s.outer) (I.meaning s.inner) };
 
-    ghost shows = { λ s. over_laws (O.LabelSystem.meaning s.outer) (I.LabelSystem.meaning s.inner) (O.LabelSystem.shows s.outer) (I.LabelSystem.shows s.inner) };
+    ghost shows = { λ s. over_laws (O.meaning s.outer) (I.meaning s.inner) (O.shows s.outer) (I.shows s.inner) };
 
     fn order(&self) -> u8 {
         self.size().order
@@ -53,7 +42,7 @@ impl<O: LabelSystem, I: LabelSystem> LabelSystem for Over<O, I> {
     }
 
     fn choose(&self, labels: &[u32]) -> Option<u32>
-        ensures { (result ≡ (over (O.LabelSystem.meaning self.now.outer) (I.LabelSystem.meaning self.now.inner)).choice labels.now) × (ChoosesByStep (O.LabelSystem.meaning self.now.outer) (I.LabelSystem.meaning self.now.inner) labels.now result) }
+        ensures { (result ≡ (over (O.meaning self.now.outer) (I.meaning self.now.inner)).choice labels.now) × (ChoosesByStep (O.meaning self.now.outer) (I.meaning self.now.inner) labels.now result) }
     {
         self.by_parts(labels)
     }
@@ -62,13 +51,13 @@ impl<O: LabelSystem, I: LabelSystem> LabelSystem for Over<O, I> {
 impl<O: LabelSystem, I: LabelSystem> Over<O, I> {
     /// The order and the count, both 0 where the two systems do not fit together.
     fn size(&self) -> Size
-        ensures order { result.order ≡ over_order (O.LabelSystem.meaning self.now.outer) (I.LabelSystem.meaning self.now.inner) }
-        ensures count { result.count ≡ over_count (O.LabelSystem.meaning self.now.outer) (I.LabelSystem.meaning self.now.inner) }
+        ensures order { result.order ≡ over_order (O.meaning self.now.outer) (I.meaning self.now.inner) }
+        ensures count { result.count ≡ over_count (O.meaning self.now.outer) (I.meaning self.now.inner) }
     {
         let g = self.outer.order();
         let h = self.inner.order();
-        let count = self.outer.count() as u64 * self.inner.count() as u64;
-        if g > 0 && h > 0 && g + h - 1 <= MAX_ORDER && count <= MAX_COUNT {
+        let count = u64::from(self.outer.count()) * u64::from(self.inner.count());
+        if g > 0 && h > 0 && g + h - 1 <= Size::MAX_ORDER && count <= u64::from(Size::MAX_COUNT) {
             Size {
                 order: g + h - 1,
                 count: count as u32,
@@ -80,10 +69,9 @@ impl<O: LabelSystem, I: LabelSystem> Over<O, I> {
 
     /// The choice beside `labels`: the group under the leading outer part grows until it is full, then a new one begins.
     fn by_parts(&self, labels: &[u32]) -> Option<u32>
-        ensures { result ≡ (over (O.LabelSystem.meaning self.now.outer) (I.LabelSystem.meaning self.now.inner)).choice labels.now }
+        ensures { result ≡ (over (O.meaning self.now.outer) (I.meaning self.now.inner)).choice labels.now }
     {
-        let size = self.size();
-        if !takes_one_more(labels, size.order, size.count) {
+        if !self.size().takes_one_more(labels) {
             return None;
         }
         let width = self.inner.count();
@@ -91,6 +79,7 @@ impl<O: LabelSystem, I: LabelSystem> Over<O, I> {
             return joined(width, self.outer.choose(&[]), self.inner.choose(&[]));
         }
         let parts = outer_parts(labels, width);
+        // By `let .. else`, as the other steps: the way out of each stands by itself.
         let Some(m) = leader(&self.outer, parts.as_slice()) else {
             return None;
         };

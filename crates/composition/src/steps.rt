@@ -4,42 +4,31 @@ ghost use Rattle.std.specs.Prelude.{◌≡◌, ℕ, ◌^◌, ◌<◌, ◌≤◌,
 ghost use Rattle.labels.specs.System.{LeadsAt};
 ghost use Rattle.labels.specs.Plain.{Distinct};
 ghost use Rattle.over.specs.Over.{outer_parts, under, leader, joined};
-ghost use Rattle.labels.specs.ShortList.{listed};
 
 use labels::{LabelSystem, ShortList};
 
 /// The distinct outer parts of `labels`, in order of first appearance.
+#[tactic(auto, using(crate::proofs::Turns::outer_turns))]
 pub(crate) fn outer_parts(labels: &[u32], width: u32) -> ShortList
     requires { (length labels.now ≤ 20) × (0 < width) }
-    ensures parts { listed result ≡ outer_parts width labels.now }
-    ensures once { Distinct (listed result) }
+    ensures parts { result ≡ outer_parts width labels.now }
+    ensures once { Distinct result }
 {
     let mut parts = ShortList::new();
     for label in labels {
         let part = *label / width;
-        if !holds(parts.as_slice(), part) {
+        if !parts.as_slice().contains(&part) {
             parts.push(part);
         }
     }
     parts
 }
 
-/// Whether `number` is one of `numbers`.
-fn holds(numbers: &[u32], number: u32) -> bool
-    ensures { (result ≡ true) ↔ ((k : ℕ) × (k < length numbers.now) × (slice_index numbers.now k ≡ number)) }
-{
-    for other in numbers {
-        if *other == number {
-            return true;
-        }
-    }
-    false
-}
-
 /// The inner parts of those labels that have the outer part `part`.
+#[tactic(auto, using(crate::proofs::Turns::inner_turns))]
 pub(crate) fn inner_parts(labels: &[u32], width: u32, part: u32) -> ShortList
     requires { (length labels.now ≤ 20) × (0 < width) }
-    ensures { listed result ≡ under width part labels.now }
+    ensures { result ≡ under width part labels.now }
 {
     let mut group = ShortList::new();
     for label in labels {
@@ -53,7 +42,7 @@ pub(crate) fn inner_parts(labels: &[u32], width: u32, part: u32) -> ShortList
 /// The part that beats all others, where each stands once.
 pub(crate) fn leader<S: LabelSystem>(system: &S, parts: &[u32]) -> Option<u32>
     requires { Distinct parts.now }
-    ensures { result ≡ leader (S.LabelSystem.meaning system.now).beats parts.now }
+    ensures { result ≡ leader (S.meaning system.now).beats parts.now }
 {
     for (place, part) in parts.iter().enumerate() {
         if leads(system, parts, place) {
@@ -66,8 +55,9 @@ pub(crate) fn leader<S: LabelSystem>(system: &S, parts: &[u32]) -> Option<u32>
 /// Whether the part at `place` beats the parts at all other places.
 fn leads<S: LabelSystem>(system: &S, parts: &[u32], place: usize) -> bool
     requires { place < length parts.now }
-    ensures { (result ≡ true) ↔ LeadsAt (S.LabelSystem.meaning system.now).beats parts.now place }
+    ensures { (result ≡ true) ↔ LeadsAt (S.meaning system.now).beats parts.now place }
 {
+    // By `for`, and not by `all`: the walk for the leader and this one go over the same places.
     for (k, part) in parts.iter().enumerate() {
         if k != place && !system.beats(parts[place], *part) {
             return false;
@@ -88,6 +78,7 @@ pub(crate) fn joined(width: u32, outer: Option<u32>, inner: Option<u32>) -> Opti
     requires { IfSome (joined width outer inner) (λ x. x < 2 ^ 28) }
     ensures { result ≡ joined width outer inner }
 {
+    // By `let .. else`, a line of its own for each choice that may be none.
     let Some(a) = outer else {
         return None;
     };

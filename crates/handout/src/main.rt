@@ -59,20 +59,16 @@ fn show<S: LabelSystem>(
 
 /// Prints which of the labels held is the newest, and which the oldest.
 fn show_ends<S: LabelSystem>(rt: &HostRuntime, system: &S, held: &[u32]) -> anyhow::Result<()> {
-    let mut rows = Vec::new(rt.alloc());
-    for label in held {
-        rows.push(WaitingRow {
+    let rows: Vec<WaitingRow> = held
+        .iter()
+        .map(|label| WaitingRow {
             seat: 1,
             label: Some(*label),
-        })?;
-    }
-    let (Some(newest), Some(oldest)) = (
-        head(system, rows.as_slice()),
-        tail(system, rows.as_slice()),
-    ) else {
-        return Ok(());
-    };
-    if let (Some(newest), Some(oldest)) = (held.get(newest), held.get(oldest)) {
+        })
+        .collect(rt.alloc())?;
+    let newest = head(system, rows.as_slice()).and_then(|place| held.get(place));
+    let oldest = tail(system, rows.as_slice()).and_then(|place| held.get(place));
+    if let (Some(newest), Some(oldest)) = (newest, oldest) {
         println!(rt; "of {held:?} the newest is {newest} and the oldest is {oldest}")?;
     }
     Ok(())

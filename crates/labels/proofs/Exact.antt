@@ -1,17 +1,12 @@
 -- Least choices exclude each other and exclude that nothing is chosen, so one answer that is right is the only one.
 use Rattle.std.proofs.Common.{◌≡◌, ℕ, ◌<◌, false, ltb, ◌⊎◌, List, length, Some, None, Option, sym, refl, subst, inl, inr, arith, MatchOption}
 use Rattle.std.proofs.lemmas.Bool.{cases_order, and_cases, ltb-false}
+use Rattle.std.proofs.lemmas.Option.{none-some}
 use Rattle.std.proofs.ByRecursion.{All-get_or}
 use Rattle.labels.specs.System.{System}
 use Rattle.labels.specs.Plain.{all_below, takes_one_more}
 use Rattle.labels.specs.Least.{LeastChosen, NothingChosen, no_room, no_label, no_winner, ChoosesLeast}
 use Rattle.labels.proofs.Walks.{no_label_at}
-
-pub none_is_no_label : (x : ℕ) → None ≡ Some x → ⊥
-none_is_no_label x e = let z : ◌≡◌ {A = ℕ} 0 1 = cc in omega arith
-
-pub some_is : (a b : ℕ) → Some a ≡ Some b → a ≡ b
-some_is a b e = cc
 
 module _ (s : System) (l : List ℕ) where
   pub one_least : (x y : ℕ) → LeastChosen s l x → LeastChosen s l y → x ≡ y
@@ -28,12 +23,12 @@ module _ (s : System) (l : List ℕ) where
 
   pub exactly : (r : Option ℕ) → MatchOption r (NothingChosen s l) (LeastChosen s l) → ChoosesLeast s l r
   exactly None h = record {
-    label_exactly = λ x. (λ e. absurd (none_is_no_label x e), λ c. absurd (chosen_or_nothing x c h));
+    label_exactly = λ x. (λ e. absurd (none-some x e), λ c. absurd (chosen_or_nothing x c h));
     none_exactly = (λ _. h, λ _. refl);
   }
   exactly (Some y) h = record {
     label_exactly = λ x. (λ e. let s : y ≡ x = cc in rw s at h, λ c. let e : y ≡ x = one_least y x h c in cc);
-    none_exactly = (λ e. absurd (none_is_no_label y (sym e)), λ n. absurd (chosen_or_nothing y h n));
+    none_exactly = (λ e. absurd (none-some y (sym e)), λ n. absurd (chosen_or_nothing y h n));
   }
 
 pub nothing_without_room : (s : System) (l : List ℕ) → takes_one_more s.order s.count l ≡ false → NothingChosen s l

@@ -1,11 +1,13 @@
 -- The heptad chooses the least label that beats what is listed, and shows the laws.
-use Rattle.std.proofs.Common.{◌≡◌, ℕ, zero, suc, ◌+◌, ◌-◌, ◌%◌, ◌<◌, ◌≤◌, Bool, true, false, cond, not, ◌&&◌, ◌||◌, eqb, ltb, ◌⊎◌, ◌↔◌, List, [], ◌∷◌, length, is_some, Some, None, Option, sym, refl, ap, ◌∙◌, inl, inr, arith, lit≤, MatchOption}
+use Rattle.std.proofs.Common.{◌≡◌, ℕ, zero, suc, ◌+◌, ◌-◌, ◌%◌, ◌<◌, ◌≤◌, Bool, true, false, cond, not, ◌&&◌, ◌||◌, eqb, ltb, ◌⊎◌, ◌↔◌, List, [], ◌∷◌, length, is_some, Some, None, Option, sym, refl, ap, ◌∙◌, subst, inl, inr, arith, lit≤, MatchOption}
 use Rattle.std.specs.List.{AllByRecursion}
-use Rattle.std.proofs.lemmas.Bool.{cases_eq, cond-true, cond-false, cond_both, both_ways, and_parts, and_from, not-true, ltb-true, lt-ltb, eqb-true, eq-eqb, or_cases, or_left, or_right}
+use Rattle.std.proofs.lemmas.Bool.{cases_eq, cond-true, cond-false, cond_both, both_ways, and_parts, and_from, not-true, ltb-true, lt-ltb, agree_below, agree_below_at, eqb-true, eq-eqb, or_cases, or_left, or_right}
+use Rattle.std.proofs.lemmas.List.{take_all}
+use Rattle.std.proofs.lemmas.List.Folds.{list_all_more, list_all_at}
 use Rattle.labels.specs.System.{Laws}
 use Rattle.labels.specs.Least.{LeastChosen, NothingChosen, no_winner, ChoosesLeast, AheadBySquare}
 use Rattle.labels.specs.Plain.{ahead, paley, bounded, takes_one_more, beats_all, least_from, heptad_choice, heptad}
-use Rattle.labels.proofs.Walks.{all_from_every, every_from_all, room_and_labels, takes_from}
+use Rattle.labels.proofs.Walks.{all_from_tests, tests_from_all, room_and_labels, takes_from}
 use Rattle.labels.proofs.Exact.{exactly, nothing_without_room}
 use Rattle.labels.proofs.Chains.{given_from_least, lawful_plain}
 
@@ -74,29 +76,22 @@ heptad_least l =
     (cond_both (takes_one_more 3 7 l) (least_from beats7 l 7 0) None (λ r. MatchOption r (NothingChosen heptad l) (LeastChosen heptad l)) (λ t. found (least_from beats7 l 7 0) (room_and_labels 3 7 l t) (least_from_right beats7 l 7 0)) (nothing_without_room heptad l))
   where
     found : (r : Option ℕ) → (length l < 3) × AllByRecursion (λ y. y < 7) l → MatchOption r ((z : ℕ) → 0 ≤ z → z < 0 + 7 → beats_all beats7 z l ≡ true → ⊥) (λ x. (x < 0 + 7) × (beats_all beats7 x l ≡ true) × ((z : ℕ) → 0 ≤ z → z < x → beats_all beats7 z l ≡ true → ⊥)) → MatchOption r (NothingChosen heptad l) (LeastChosen heptad l)
-    found None free h = no_winner (λ z lt b. h z (omega arith) (omega arith) (every_from_all (beats7 z) l b))
+    found None free h = no_winner (λ z lt b. h z (omega arith) (omega arith) (tests_from_all (beats7 z) l b))
     found (Some x) free h = record {
       room = free.0;
       labels = free.1;
       label = omega (arith, h.0);
-      beats_all = all_from_every (beats7 x) l h.1;
-      least = λ z lt b. h.2 z (omega arith) lt (every_from_all (beats7 z) l b);
+      beats_all = all_from_tests (beats7 x) l h.1;
+      least = λ z lt b. h.2 z (omega arith) lt (tests_from_all (beats7 z) l b);
     }
 
--- a test of all numbers below n, computed
-abbrev up_to : (ℕ → Bool) → ℕ → Bool
-up_to test zero = true
-up_to test (suc n) = test n && up_to test n
-
-up_to_true : (test : ℕ → Bool) (n : ℕ) → up_to test n ≡ true → (k : ℕ) → k < n → test k ≡ true
-up_to_true test zero e k h = absurd (omega arith)
-up_to_true test (suc n) e k h =
-    let q = and_parts (test n) (up_to test n) e in
-    elim (cases_eq k n) [ inl s ↦ ap test s ∙ q.0 | inr d ↦ up_to_true test n q.1 k (omega arith) ]
-
 -- a test of all pairs of labels, computed
-pairs_true : (test : ℕ → ℕ → Bool) → up_to (λ u. up_to (test u) 7) 7 ≡ true → (a b : ℕ) → a < 7 → b < 7 → test a b ≡ true
-pairs_true test e a b ha hb = up_to_true (test a) 7 (up_to_true (λ u. up_to (test u) 7) 7 e a ha) b hb
+abbrev all_pairs : (ℕ → ℕ → Bool) → Bool
+all_pairs test = agree_below (λ u. agree_below (test u) (λ _. true) 7) (λ _. true) 7
+
+pairs_true : (test : ℕ → ℕ → Bool) → all_pairs test ≡ true → (a b : ℕ) → a < 7 → b < 7 → test a b ≡ true
+pairs_true test e a b ha hb =
+    agree_below_at (test a) (λ _. true) 7 b (agree_below_at (λ u. agree_below (test u) (λ _. true) 7) (λ _. true) 7 a e ha) hb
 
 pub heptad_laws : Laws heptad
 heptad_laws = lawful_plain 3 7 paley heptad_choice true (record {
@@ -108,7 +103,7 @@ heptad_laws = lawful_plain 3 7 paley heptad_choice true (record {
   where
     open_choice : (l : List ℕ) → length l < 3 → AllByRecursion (λ y. y < 7) l → is_some (least_from beats7 l 7 0) ≡ true
     open_choice [] lt h = refl
-    open_choice (a ∷ []) lt h = up_to_true (λ u. is_some (least_from beats7 (u ∷ []) 7 0)) 7 refl a h.0
+    open_choice (a ∷ []) lt h = agree_below_at (λ u. is_some (least_from beats7 (u ∷ []) 7 0)) (λ _. true) 7 a refl h.0
     open_choice (a ∷ b ∷ []) lt h = pairs_true (λ u v. is_some (least_from beats7 (u ∷ v ∷ []) 7 0)) refl a b h.0 h.1.0
     open_choice (a ∷ b ∷ c ∷ l) lt h = absurd (omega arith)
 
@@ -134,3 +129,13 @@ module _ (beats : ℕ → ℕ → Bool) (l : List ℕ) (x n : ℕ) (within : x <
 
 pub none_least : (beats : ℕ → ℕ → Bool) (l : List ℕ) (x n : ℕ) → n ≤ x → least_from beats l (n - x) x ≡ None
 none_least beats l x n h = let e : n - x ≡ 0 = omega arith in ap (λ k. least_from beats l k x) e
+
+-- what holds by the definition holds of an answer that equals it
+pub heptad_chooses : (l : List ℕ) (r : Option ℕ) → r ≡ heptad_choice l → ChoosesLeast heptad l r
+heptad_chooses l r e = subst (ChoosesLeast heptad l) (sym e) (heptad_least l)
+
+pub heptad_beats : (a b : ℕ) (r : Bool) → r ≡ beats7 a b → (r ≡ true) ↔ AheadBySquare a b
+heptad_beats a b r e = subst (λ (s : Bool). (s ≡ true) ↔ AheadBySquare a b) (sym e) (beats_by_square a b)
+
+-- a turn of the search: one label more of the list, one candidate more, and the search at its end
+pub ruleset least_search = (list_all_more, list_all_at, take_all, listed, passed_over, is_least, none_least)

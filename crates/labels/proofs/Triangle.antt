@@ -1,11 +1,12 @@
 -- The triangle chooses the least label that beats what is listed, and shows the laws.
-use Rattle.std.proofs.Common.{◌≡◌, ℕ, ◌<◌, Bool, true, ◌&&◌, eqb, ltb, List, [], ◌∷◌, length, Some, None, sym, refl, ◌∙◌, arith, lit<, lit≤, MatchOption}
+use Rattle.std.proofs.Common.{◌≡◌, ℕ, ◌<◌, Bool, true, ◌&&◌, eqb, ltb, List, [], ◌∷◌, length, Some, None, Option, sym, refl, ◌∙◌, subst, arith, lit<, lit≤, MatchOption}
 use Rattle.std.specs.List.{AllByRecursion}
 use Rattle.std.proofs.lemmas.Bool.{eqb-true, eq-eqb, cond-true, cond_both, and_parts, and_from, ltb-true, ltb-false, lt-ltb}
 use Rattle.labels.specs.System.{Laws}
 use Rattle.labels.specs.Least.{LeastChosen, NothingChosen, no_room, no_label, ChoosesLeast}
 use Rattle.labels.specs.Plain.{next_in_ring, triangle_choice, triangle, bounded}
-use Rattle.labels.proofs.Exact.{exactly, none_is_no_label}
+use Rattle.std.proofs.lemmas.Option.{none-some}
+use Rattle.labels.proofs.Exact.{exactly}
 use Rattle.labels.proofs.Chains.{given_from_least, lawful_plain}
 
 abbrev ring : ℕ → ℕ → Bool
@@ -45,6 +46,9 @@ triangle_laws = lawful_plain 2 3 ring triangle_choice true (record {
 })
   where
     some : true ≡ true → (l : List ℕ) → length l < 2 → AllByRecursion (λ y. y < 3) l → triangle_choice l ≡ None → ⊥
-    some _ [] lt h n = none_is_no_label 0 (sym n)
-    some _ (b ∷ []) lt h n = none_is_no_label (next_in_ring b) (sym n ∙ cond-true (ltb b 3) (Some (next_in_ring b)) None (lt-ltb b 3 h.0))
+    some _ [] lt h n = none-some 0 (sym n)
+    some _ (b ∷ []) lt h n = none-some (next_in_ring b) (sym n ∙ cond-true (ltb b 3) (Some (next_in_ring b)) None (lt-ltb b 3 h.0))
     some _ (b ∷ c ∷ l) lt h n = omega arith
+
+pub triangle_chooses : (l : List ℕ) (r : Option ℕ) → r ≡ triangle_choice l → ChoosesLeast triangle l r
+triangle_chooses l r e = subst (ChoosesLeast triangle l) (sym e) (triangle_least l)

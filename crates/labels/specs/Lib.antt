@@ -1,4 +1,3 @@
 pub mod System
 pub mod Plain
 pub mod Least
-pub mod ShortList

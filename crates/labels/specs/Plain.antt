@@ -1,6 +1,6 @@
 -- The three plain systems: triangle, heptad and counter.
 use Rattle.std.specs.Prelude.{◌≡◌, ℕ, zero, suc, ◌+◌, ◌-◌, ◌%◌, ◌<◌, ◌≤◌, max, Bool, true, false, cond, ◌&&◌, ◌||◌, ltb, List, [], ◌∷◌, length, Some, None, Option, ◌==◌, ◌≢◌, nat_eq, nat_lt, slice_index}
-use Rattle.std.specs.List.{AllByRecursion}
+use Rattle.std.specs.List.{AllByRecursion, list_all}
 use Rattle.std.specs.List.Sorted.{IsPermutation}
 use Rattle.labels.specs.System.{System}
 
@@ -38,13 +38,8 @@ plain order count beats choice endless = record {
   endless = endless;
 }
 
--- whether every entry passes the test
-abbrev pub every : (ℕ → Bool) → List ℕ → Bool
-every test [] = true
-every test (x ∷ xs) = test x && every test xs
-
 abbrev pub all_below : ℕ → List ℕ → Bool
-all_below n l = every (λ x. ltb x n) l
+all_below n l = list_all (λ x. nat_lt x n) l
 
 -- whether l leaves room for one more, and holds only labels
 abbrev pub takes_one_more : ℕ → ℕ → List ℕ → Bool
@@ -52,7 +47,7 @@ takes_one_more order count l = nat_lt (length l) order && all_below count l
 
 -- whether x beats every entry
 abbrev pub beats_all : (ℕ → ℕ → Bool) → ℕ → List ℕ → Bool
-beats_all beats x l = every (beats x) l
+beats_all beats x l = list_all (beats x) l
 
 -- Triangle: three labels in a ring, each beating the one before it.
 abbrev pub next_in_ring : ℕ → ℕ

@@ -2,11 +2,12 @@
 
 ghost use Rattle.std.specs.Prelude.{◌≡◌};
 ghost use Rattle.labels.specs.System.{System, Laws};
-ghost use Rattle.labels.specs.Plain.{all_below, takes_one_more};
 
 mod short_list;
+mod size;
 
 pub use short_list::ShortList;
+pub use size::Size;
 
 /// A label system: what it means, the laws that its meaning shows, and five calls that answer by it.
 /// No call refuses, and none changes the system.
@@ -34,23 +35,4 @@ pub trait LabelSystem {
         ensures { result ≡ (meaning self.now).choice labels.now };
 
     ghost shows: { (s : Self) → Laws (meaning s) };
-}
-
-/// Whether a newcomer may be given a label beside `labels`: there are fewer than `order`, and each is below `count`.
-pub fn takes_one_more(labels: &[u32], order: u8, count: u32) -> bool
-    ensures { result ≡ takes_one_more order count labels.now }
-{
-    labels.len() < order as usize && all_below(labels, count)
-}
-
-/// Whether every entry of `labels` is below `count`.
-fn all_below(labels: &[u32], count: u32) -> bool
-    ensures { result ≡ all_below count labels.now }
-{
-    for label in labels {
-        if *label >= count {
-            return false;
-        }
-    }
-    true
 }

@@ -4,14 +4,14 @@ use Rattle.std.proofs.Common.{sym, ◌∙◌, inl, inr, arith, lit<, lit≤}
 use Rattle.std.proofs.lemmas.Bool.{cases_Bool, cond-true, cond-false, ltb-true}
 use Rattle.labels.specs.System.{Laws}
 use Rattle.labels.specs.Plain.{bounded}
-use Rattle.labels.proofs.Exact.{none_is_no_label}
+use Rattle.std.proofs.lemmas.Option.{none-some}
 use Rattle.labels.proofs.Counter.{over_from}
 use Rattle.labels.proofs.Chains.{Given, lawful_plain}
 use Rattle.made_up.specs.Skipping.{past, skipping_choice, skipping}
 
 -- what a passed test leaves
 kept : (b : Bool) (o : Option ℕ) (x : ℕ) → cond b o None ≡ Some x → (b ≡ true) × (o ≡ Some x)
-kept b o x e = elim (cases_Bool b) [ inl t ↦ (t, sym (cond-true b o None t) ∙ e) | inr f ↦ absurd (none_is_no_label x (sym (cond-false b o None f) ∙ e)) ]
+kept b o x e = elim (cases_Bool b) [ inl t ↦ (t, sym (cond-true b o None t) ∙ e) | inr f ↦ absurd (none-some x (sym (cond-false b o None f) ∙ e)) ]
 
 above : (a b x : ℕ) → past a b ≡ Some x → (x < 100) × (a < x) × (b < x)
 above a b x e =
@@ -28,7 +28,7 @@ chosen (a ∷ []) x e =
 chosen (a ∷ b ∷ []) x e =
     let h = above a b x (kept (nat_lt a 100 && nat_lt b 100) (past a b) x e).1 in
     record { room = lit< tt; label = h.0; beats_all = (over_from 3 100 x a h.0 h.1, (over_from 3 100 x b h.0 h.2, tt)) }
-chosen (a ∷ b ∷ c ∷ l) x e = absurd (none_is_no_label x e)
+chosen (a ∷ b ∷ c ∷ l) x e = absurd (none-some x e)
 
 pub skipping_laws : Laws skipping
 skipping_laws = lawful_plain 3 100 (λ a b. ltb b a) skipping_choice false (record {

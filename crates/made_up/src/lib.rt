@@ -6,9 +6,12 @@ ghost use Rattle.std.specs.Prelude.{◌≡◌, ◌<◌};
 ghost use Rattle.made_up.specs.Skipping.{past, skipping};
 ghost use Rattle.made_up.specs.SkippingLaws.{skipping_laws};
 
-use labels::LabelSystem;
+use labels::{LabelSystem, Size};
 
-const COUNT: u32 = 100;
+const SIZE: Size = Size {
+    order: 3,
+    count: 100,
+};
 
 /// A counter that skips a label where the first listed label is odd.
 #[derive(Clone, Copy)]
@@ -20,11 +23,11 @@ impl LabelSystem for Skipping {
     ghost shows = { λ s. skipping_laws };
 
     fn order(&self) -> u8 {
-        3
+        SIZE.order
     }
 
     fn count(&self) -> u32 {
-        COUNT
+        SIZE.count
     }
 
     fn endless(&self) -> bool {
@@ -32,14 +35,14 @@ impl LabelSystem for Skipping {
     }
 
     fn beats(&self, a: u32, b: u32) -> bool {
-        a < COUNT && b < COUNT && a > b
+        a < SIZE.count && b < SIZE.count && a > b
     }
 
     fn choose(&self, labels: &[u32]) -> Option<u32> {
         match labels {
             [] => Some(0),
-            [a] if *a < COUNT => past(*a, *a),
-            [a, b] if *a < COUNT && *b < COUNT => past(*a, *b),
+            [a] if *a < SIZE.count => past(*a, *a),
+            [a, b] if *a < SIZE.count && *b < SIZE.count => past(*a, *b),
             _ => None,
         }
     }
@@ -51,5 +54,5 @@ fn past(first: u32, second: u32) -> Option<u32>
     ensures { result ≡ past first second }
 {
     let next = first.max(second) + 1 + first % 2;
-    if next < COUNT { Some(next) } else { None }
+    (next < SIZE.count).then_some(next)
 }

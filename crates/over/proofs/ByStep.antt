@@ -5,7 +5,7 @@ use Rattle.labels.specs.System.{System, Laws}
 use Rattle.labels.specs.Plain.{takes_one_more}
 use Rattle.labels.proofs.Tally.{tally, place_of, tally_at}
 use Rattle.labels.proofs.Chains.{distinct_from_once}
-use Rattle.labels.proofs.Exact.{none_is_no_label}
+use Rattle.std.proofs.lemmas.Option.{none-some}
 use Rattle.labels.proofs.Walks.{room_and_labels, takes_from}
 use Rattle.over.specs.Over.{outer_parts, under, leader, joined, over_order, over_count, beside_leader, by_parts, over_choice}
 use Rattle.over.specs.Steps.{LedBy, Step, first, grows, outward, Chosen, ChoosesByStep}
@@ -15,8 +15,8 @@ use Rattle.over.proofs.Sizes.{parts_of_label}
 
 joined_some : (n : ℕ) (p q : Option ℕ) (x : ℕ) → joined n p q ≡ Some x → (a : ℕ) × (b : ℕ) × (p ≡ Some a) × (q ≡ Some b) × (x ≡ a * n + b)
 joined_some n (Some a) (Some b) x e = (a, b, refl, refl, cc)
-joined_some n (Some a) None x e = absurd (none_is_no_label x e)
-joined_some n None q x e = absurd (none_is_no_label x e)
+joined_some n (Some a) None x e = absurd (none-some x e)
+joined_some n None q x e = absurd (none-some x e)
 
 pub joined_from : (n : ℕ) (p q : Option ℕ) (a b : ℕ) → p ≡ Some a → q ≡ Some b → joined n p q ≡ Some (a * n + b)
 joined_from n p q a b ep eq = ap (λ z. joined n z q) ep ∙ ap (joined n (Some a)) eq
@@ -56,10 +56,10 @@ module _ (o i : System) (l : List ℕ) where
 module _ (o i : System) (lo : Laws o) (li : Laws i) (l : List ℕ) where
   -- a choice was made by one of the steps
   pub step_of : (x : ℕ) → over_choice o i l ≡ Some x → Chosen o i l x
-  step_of x e = elim (cases_Bool (takes_one_more (over_order o i) (over_count o i) l)) [ inl t ↦ taken t | inr f ↦ absurd (none_is_no_label x (sym (cond-false (takes_one_more (over_order o i) (over_count o i) l) (by_parts o i l) None f) ∙ e)) ]
+  step_of x e = elim (cases_Bool (takes_one_more (over_order o i) (over_count o i) l)) [ inl t ↦ taken t | inr f ↦ absurd (none-some x (sym (cond-false (takes_one_more (over_order o i) (over_count o i) l) (by_parts o i l) None f) ∙ e)) ]
     where
       beside : (free : takes_one_more (over_order o i) (over_count o i) l ≡ true) → 0 < length l → (M : Option ℕ) → leader o.beats (outer_parts i.count l) ≡ M → Step o i l x
-      beside free some None lead = absurd (none_is_no_label x (sym (no_leader o i l free some lead) ∙ e))
+      beside free some None lead = absurd (none-some x (sym (no_leader o i l free some lead) ∙ e))
       beside free some (Some m) lead =
           let led = led_from_leader o lo (outer_parts i.count l) (λ y. outer_once i.count y l) m lead in
           elim (cases_lt (length (under i.count m l)) i.order) [

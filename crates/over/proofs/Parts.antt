@@ -5,7 +5,7 @@ use Rattle.std.proofs.lemmas.Bool.{cases_eq, cases_Bool, eqb-true, eq-eqb, ne_eq
 use Rattle.over.specs.Over.{firsts, outer_parts, under, beats_others, first_that, leader}
 use Rattle.labels.proofs.Tally.{one, tally, one_is, one_other, tally_kept, Within, tally_map, tally_map_from, nil_from_tally, all_tally, tally_all}
 use Rattle.labels.proofs.Leaders.{Leads, tally_added}
-use Rattle.labels.proofs.Walks.{all_from_every, every_from_all}
+use Rattle.labels.proofs.Walks.{all_from_tests, tests_from_all}
 
 pub tally_firsts_le : (x : ℕ) (l : List ℕ) → tally x (firsts l) ≤ 1
 tally_firsts_le x [] = omega arith
@@ -182,13 +182,13 @@ first_that_finds test (y ∷ ys) x t h =
 
 pub beats_others_gives : (beats : ℕ → ℕ → Bool) (x : ℕ) (l : List ℕ) → beats_others beats x l ≡ true → (y : ℕ) → 0 < tally y l → (y ≡ x → ⊥) → beats x y ≡ true
 beats_others_gives beats x l h y p d =
-    elim (or_cases (eqb y x) (beats x y) (all_tally (λ z. (eqb z x || beats x z) ≡ true) l y (all_from_every (λ z. eqb z x || beats x z) l h) p)) [
+    elim (or_cases (eqb y x) (beats x y) (all_tally (λ z. (eqb z x || beats x z) ≡ true) l y (all_from_tests (λ z. eqb z x || beats x z) l h) p)) [
       | inl q ↦ absurd (d (eqb-true y x q))
       | inr b ↦ b
     ]
 
 pub beats_others_from : (beats : ℕ → ℕ → Bool) (x : ℕ) (l : List ℕ) → ((y : ℕ) → 0 < tally y l → (y ≡ x → ⊥) → beats x y ≡ true) → beats_others beats x l ≡ true
-beats_others_from beats x l h = every_from_all (λ z. eqb z x || beats x z) l (tally_all (λ z. (eqb z x || beats x z) ≡ true) l (λ y p.
+beats_others_from beats x l h = tests_from_all (λ z. eqb z x || beats x z) l (tally_all (λ z. (eqb z x || beats x z) ≡ true) l (λ y p.
     elim (cases_eq y x) [ inl e ↦ or_left (eqb y x) (beats x y) (eq-eqb y x e) | inr d ↦ or_right (eqb y x) (beats x y) (h y p d) ]))
 
 pub leader_some : (beats : ℕ → ℕ → Bool) (l : List ℕ) (x : ℕ) → leader beats l ≡ Some x → (0 < tally x l) × ((y : ℕ) → 0 < tally y l → (y ≡ x → ⊥) → beats x y ≡ true)

@@ -1,9 +1,9 @@
 -- One label system over another. In what follows the outer system o has order g and count G, the inner system i has
 -- order h and count H, and a label is outer part × H + inner part.
 use Rattle.std.specs.Prelude.{ℕ, ◌+◌, ◌-◌, ◌*◌, ◌/◌, ◌%◌, ◌^◌, ◌<◌, ◌≤◌, Bool, cond, not, ◌&&◌, ◌||◌, List, [], ◌∷◌, map, length, Some, None, filter, Option, ◌==◌, nat_eq, nat_le, nat_lt}
-use Rattle.std.specs.List.{AllByRecursion}
+use Rattle.std.specs.List.{AllByRecursion, list_all}
 use Rattle.labels.specs.System.{System}
-use Rattle.labels.specs.Plain.{every, takes_one_more}
+use Rattle.labels.specs.Plain.{takes_one_more}
 
 -- the entries of a list, each once, in order of first appearance
 abbrev pub firsts : List ℕ → List ℕ
@@ -20,7 +20,7 @@ under H m l = map (λ x. x % H) (filter (λ x. nat_eq (x / H) m) l)
 
 -- whether x beats every other member
 abbrev pub beats_others : (ℕ → ℕ → Bool) → ℕ → List ℕ → Bool
-beats_others beats x l = every (λ y. (y == x) || beats x y) l
+beats_others beats x l = list_all (λ y. (y == x) || beats x y) l
 
 abbrev pub first_that : (ℕ → Bool) → List ℕ → Option ℕ
 first_that test [] = None

@@ -3,11 +3,9 @@ ghost use Rattle.labels.specs.Plain.{heptad};
 ghost use Rattle.labels.specs.Least.{ChoosesLeast, AheadBySquare};
 ghost use Rattle.labels.proofs.Heptad.{heptad_laws};
 
-use labels::{LabelSystem, takes_one_more};
+use labels::{LabelSystem, Size};
 
-const ORDER: u8 = 3;
-
-const COUNT: u32 = 7;
+const SIZE: Size = Size { order: 3, count: 7 };
 
 /// The Paley tournament on seven points: of any two labels one beats the other, and some label beats both.
 #[derive(Clone, Copy)]
@@ -19,23 +17,25 @@ impl LabelSystem for Heptad {
     ghost shows = { λ s. heptad_laws };
 
     fn order(&self) -> u8 {
-        ORDER
+        SIZE.order
     }
 
     fn count(&self) -> u32 {
-        COUNT
+        SIZE.count
     }
 
     fn endless(&self) -> bool {
         true
     }
 
+    #[tactic(auto, using(labels::proofs::Heptad::heptad_beats))]
     fn beats(&self, a: u32, b: u32) -> bool
         ensures { (result ≡ heptad.beats a b) × ((result ≡ true) ↔ AheadBySquare a b) }
     {
         ahead_by_square(a, b)
     }
 
+    #[tactic(auto, using(labels::proofs::Heptad::heptad_chooses))]
     fn choose(&self, labels: &[u32]) -> Option<u32>
         ensures { (result ≡ heptad.choice labels.now) × (ChoosesLeast heptad labels.now result) }
     {
@@ -47,21 +47,18 @@ impl LabelSystem for Heptad {
 fn ahead_by_square(a: u32, b: u32) -> bool
     ensures { result ≡ heptad.beats a b }
 {
-    if a >= COUNT || b >= COUNT {
-        return false;
-    }
-    let ahead = (a + COUNT - b) % COUNT;
-    ahead == 1 || ahead == 2 || ahead == 4
+    a < SIZE.count && b < SIZE.count && matches!((a + SIZE.count - b) % SIZE.count, 1 | 2 | 4)
 }
 
 /// The least label that beats every one of `labels`, where they take one more.
+#[tactic(auto, using(labels::proofs::Heptad::least_search))]
 fn least_winner(labels: &[u32]) -> Option<u32>
     ensures { result ≡ heptad.choice labels.now }
 {
-    if !takes_one_more(labels, ORDER, COUNT) {
+    if !SIZE.takes_one_more(labels) {
         return None;
     }
-    'candidate: for x in 0..COUNT {
+    'candidate: for x in 0..SIZE.count {
         for y in labels {
             if !ahead_by_square(x, *y) {
                 continue 'candidate;

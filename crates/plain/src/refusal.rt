@@ -1,23 +1,23 @@
 ghost use Rattle.std.specs.Prelude.{◌≡◌};
-ghost use Rattle.plain.specs.Refusals.{number};
+
+use thiserror::Error;
 
 /// Why a counter was not made.
-#[derive(Clone, Copy, PartialEq, Eq, Debug)]
+#[derive(Clone, Copy, PartialEq, Eq, Debug, Error)]
 pub enum CounterRefusal {
-    /// The order is not from 1 to 20.
-    Order,
-    /// The ceiling is not from 1 to 2^28.
-    Ceiling,
+    #[error("the order is not from 1 to 20")]
+    Order = 14,
+    #[error("the ceiling is not from 1 to 2^28")]
+    Ceiling = 15,
 }
 
 impl CounterRefusal {
+    ghost use Rattle.plain.specs.Refusals.{number};
+
     /// The number under which the refusal is known.
     pub fn number(&self) -> u8
         ensures { result ≡ number self.now }
     {
-        match self {
-            CounterRefusal::Order => 14,
-            CounterRefusal::Ceiling => 15,
-        }
+        *self as u8
     }
 }

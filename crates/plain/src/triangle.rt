@@ -3,11 +3,9 @@ ghost use Rattle.labels.specs.Plain.{triangle};
 ghost use Rattle.labels.specs.Least.{ChoosesLeast};
 ghost use Rattle.labels.proofs.Triangle.{triangle_laws};
 
-use labels::LabelSystem;
+use labels::{LabelSystem, Size};
 
-const ORDER: u8 = 2;
-
-const COUNT: u32 = 3;
+const SIZE: Size = Size { order: 2, count: 3 };
 
 /// Three labels in a ring, each beating the one before it.
 #[derive(Clone, Copy)]
@@ -19,11 +17,11 @@ impl LabelSystem for Triangle {
     ghost shows = { λ s. triangle_laws };
 
     fn order(&self) -> u8 {
-        ORDER
+        SIZE.order
     }
 
     fn count(&self) -> u32 {
-        COUNT
+        SIZE.count
     }
 
     fn endless(&self) -> bool {
@@ -31,9 +29,10 @@ impl LabelSystem for Triangle {
     }
 
     fn beats(&self, a: u32, b: u32) -> bool {
-        a < COUNT && b < COUNT && a == (b + 1) % COUNT
+        a < SIZE.count && b < SIZE.count && a == (b + 1) % SIZE.count
     }
 
+    #[tactic(auto, using(labels::proofs::Triangle::triangle_chooses))]
     fn choose(&self, labels: &[u32]) -> Option<u32>
         ensures { (result ≡ triangle.choice labels.now) × (ChoosesLeast triangle labels.now result) }
     {
@@ -47,7 +46,7 @@ fn next_in_ring(labels: &[u32]) -> Option<u32>
 {
     match labels {
         [] => Some(0),
-        [b] if *b < COUNT => Some((*b + 1) % COUNT),
+        [b] if *b < SIZE.count => Some((*b + 1) % SIZE.count),
         _ => None,
     }
 }

@@ -10,7 +10,7 @@ use std::alloc::{AllocError, Global};
 
 /// The labels that `rounds` newcomers are given, oldest first; fewer where the system has none left.
 pub fn roll<S: LabelSystem>(heap: Global, system: &S, rounds: usize) -> Result<Vec<u32>, AllocError>
-    ensures { IfOk result (λ given. Rolled (S.LabelSystem.meaning system.now) rounds given.items) }
+    ensures { IfOk result (λ given. Rolled (S.meaning system.now) rounds given.items) }
 {
     let mut given = Vec::new(heap);
     for _round in 0..rounds {
@@ -24,21 +24,15 @@ pub fn roll<S: LabelSystem>(heap: Global, system: &S, rounds: usize) -> Result<V
 
 /// Of the labels given so far, oldest first, those still held when the next newcomer comes.
 pub fn held_beside<'a, S: LabelSystem>(system: &S, given: &'a [u32]) -> &'a [u32]
-    ensures { result.now ≡ latest ((S.LabelSystem.meaning system.now).order - 1) given.now }
+    ensures { result.now ≡ latest ((S.meaning system.now).order - 1) given.now }
 {
-    let others = (system.order() as usize).saturating_sub(1);
-    let (_, held) = given.split_at(given.len().saturating_sub(others));
-    held
+    let others = usize::from(system.order()).saturating_sub(1);
+    &given[given.len().saturating_sub(others)..]
 }
 
 /// Whether `label` beats every one of `labels`.
 pub fn beats_all<S: LabelSystem>(system: &S, label: u32, labels: &[u32]) -> bool
-    ensures { (result ≡ true) ↔ ((k : ℕ) → k < length labels.now → (S.LabelSystem.meaning system.now).beats label (slice_index labels.now k) ≡ true) }
+    ensures { (result ≡ true) ↔ ((k : ℕ) → k < length labels.now → (S.meaning system.now).beats label (slice_index labels.now k) ≡ true) }
 {
-    for other in labels {
-        if !system.beats(label, *other) {
-            return false;
-        }
-    }
-    true
+    labels.iter().all(|other| system.beats(label, *other))
 }

@@ -19,14 +19,15 @@ cut_then_push zero l a = refl
 cut_then_push (suc n) [] a = refl
 cut_then_push (suc n) (x ∷ l) a = ap (λ r. x ∷ r) (cut_then_push n l a)
 
-module _ {X : Type 0} (f : X → Option ℕ) (xs : List X) (i : ℕ) (x : X) (within : i < length xs) (is : x ≡ get_or xs i x) (old new : List ℕ) (so_far : old ≡ take 20 (labels_in (map f (take i xs)))) where
-  one_more : labels_in (map f (take (i + 1) xs)) ≡ labels_in (map f (take i xs) ++ f x ∷ [])
-  one_more = ap labels_in (map_more f xs i x within ∙ ap (λ z. map f (take i xs) ++ f z ∷ []) (sym is))
+-- a turn of the walk, at an entry x that told o
+module _ {X : Type 0} (f : X → Option ℕ) (xs : List X) (i : ℕ) (x : X) (within : i < length xs) (is : x ≡ get_or xs i x) (o : Option ℕ) (told : o ≡ f x) (old new : List ℕ) (so_far : old ≡ take 20 (labels_in (map f (take i xs)))) where
+  one_more : labels_in (map f (take (i + 1) xs)) ≡ labels_in (map f (take i xs) ++ o ∷ [])
+  one_more = ap labels_in (map_more f xs i x within ∙ ap (λ z. map f (take i xs) ++ f z ∷ []) (sym is) ∙ ap (λ z. map f (take i xs) ++ z ∷ []) (sym told))
 
-  pub gathered : (a : ℕ) → f x ≡ Some a → new ≡ take 20 (old ++ a ∷ []) → new ≡ take 20 (labels_in (map f (take (i + 1) xs)))
+  pub gathered : (a : ℕ) → o ≡ Some a → new ≡ take 20 (old ++ a ∷ []) → new ≡ take 20 (labels_in (map f (take (i + 1) xs)))
   gathered a e n =
       n ∙ ap (λ l. take 20 (l ++ a ∷ [])) so_far ∙ cut_then_push 20 (labels_in (map f (take i xs))) a
       ∙ sym (ap (take 20) (one_more ∙ ap (λ o. labels_in (map f (take i xs) ++ o ∷ [])) e ∙ labels_in_some (map f (take i xs)) a))
 
-  pub passed : f x ≡ None → new ≡ old → new ≡ take 20 (labels_in (map f (take (i + 1) xs)))
+  pub passed : o ≡ None → new ≡ old → new ≡ take 20 (labels_in (map f (take (i + 1) xs)))
   passed e n = n ∙ so_far ∙ sym (ap (take 20) (one_more ∙ ap (λ o. labels_in (map f (take i xs) ++ o ∷ [])) e ∙ labels_in_none (map f (take i xs))))

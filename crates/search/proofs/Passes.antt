@@ -2,24 +2,17 @@
 use Rattle.std.proofs.Common.{◌≡◌, ℕ, ◌+◌, ◌<◌, ◌≤◌, Bool, true, false, eqb, List, map, length, get_or, Some, None, Option, sym, ap, ◌∙◌, subst, inl, inr, arith, MatchOption}
 use Rattle.std.proofs.lemmas.List.{get_or-map, get_or_past}
 use Rattle.std.proofs.lemmas.Bool.{cases_eq, cases_lt, both_ways, cond_both, or_cases, or_parts, eqb-true, eqb-false}
-use Rattle.labels.specs.System.{System, Laws}
-use Rattle.labels.proofs.Exact.{none_is_no_label, some_is}
+use Rattle.std.proofs.lemmas.Option.{none-some, same_Some}
 use Rattle.search.specs.Search.{LeadsFrom}
-use Rattle.search.specs.Sides.{leads_by, next_best, led_by, OnlyCandidate, Narrows}
+use Rattle.search.specs.Candidates.{next_best, led_by, OnlyCandidate, Narrows}
 use Rattle.search.specs.declared.search.Candidate.{Candidate}
-use Rattle.search.specs.declared.search.Side.{Side}
-use Rattle.search.specs.declared.search.Side.TheVariants.{Head, Tail}
 
-pub one_way_by : (side : Side) (s : System) → Laws s → (a b : ℕ) → leads_by side s a b ≡ true → leads_by side s b a ≡ true → ⊥
-one_way_by Head s laws a b = laws.one_way a b
-one_way_by Tail s laws a b = laws.one_way b a
-
--- what the list of labels has at a place that a walk has come to
-pub label_at : {X : Type 0} (f : X → Option ℕ) (xs : List X) (i : ℕ) (x : X) → i < length xs → x ≡ get_or xs i x → get_or (map f xs) i None ≡ f x
-label_at f xs i x lt is = get_or-map f xs i x None lt ∙ ap f (sym is)
+-- what the list of labels has at a place that a walk has come to, where the entry x told r
+pub label_at : {X : Type 0} (f : X → Option ℕ) (xs : List X) (i : ℕ) (x : X) (r : Option ℕ) → i < length xs → x ≡ get_or xs i x → r ≡ f x → get_or (map f xs) i None ≡ r
+label_at f xs i x r lt is told = get_or-map f xs i x None lt ∙ ap f (sym is) ∙ sym told
 
 pub labelled_inside : (ls : List (Option ℕ)) (q b : ℕ) → get_or ls q None ≡ Some b → q < length ls
-labelled_inside ls q b e = elim (cases_lt q (length ls)) [ inl lt ↦ lt | inr ge ↦ absurd (none_is_no_label b (sym (get_or_past ls q None ge) ∙ e)) ]
+labelled_inside ls q b e = elim (cases_lt q (length ls)) [ inl lt ↦ lt | inr ge ↦ absurd (none-some b (sym (get_or_past ls q None ge) ∙ e)) ]
 
 module _ (leads : ℕ → ℕ → Bool) (ls : List (Option ℕ)) where
   -- of the places below i only the candidate's can lead
@@ -30,7 +23,7 @@ module _ (leads : ℕ → ℕ → Bool) (ls : List (Option ℕ)) where
   pub unlabelled : (i : ℕ) (best : Option Candidate) → get_or ls i None ≡ None → SoFar i best → SoFar (i + 1) best
   unlabelled i None none h = λ p lt t.
       elim (cases_eq p i) [
-        | inl e ↦ none_is_no_label t.label (sym none ∙ ap (λ n. get_or ls n None) (sym e) ∙ t.here)
+        | inl e ↦ none-some t.label (sym none ∙ ap (λ n. get_or ls n None) (sym e) ∙ t.here)
         | inr d ↦ h p (omega arith) t
       ]
   unlabelled i (Some c) none h = (
@@ -38,7 +31,7 @@ module _ (leads : ℕ → ℕ → Bool) (ls : List (Option ℕ)) where
     omega (arith, h.1),
     λ p lt t.
         elim (cases_eq p i) [
-          | inl e ↦ absurd (none_is_no_label t.label (sym none ∙ ap (λ n. get_or ls n None) (sym e) ∙ t.here))
+          | inl e ↦ absurd (none-some t.label (sym none ∙ ap (λ n. get_or ls n None) (sym e) ∙ t.here))
           | inr d ↦ h.2 p (omega arith) t
         ],
   )
@@ -53,7 +46,7 @@ module _ (leads : ℕ → ℕ → Bool) (ls : List (Option ℕ)) where
           | inl e ↦ e
           | inr d ↦
               let at : p ≡ c.place = h.2 p (omega arith) top in
-              let same : top.label ≡ c.label = some_is top.label c.label (sym top.here ∙ ap (λ n. get_or ls n None) at ∙ h.0) in
+              let same : top.label ≡ c.label = same_Some top.label c.label (sym top.here ∙ ap (λ n. get_or ls n None) at ∙ h.0) in
               absurd (one_way a c.label t (subst (λ z. leads z a ≡ true) same (top.others i a (λ e. d (sym e)) here)))
         ],
   )
@@ -66,7 +59,7 @@ module _ (leads : ℕ → ℕ → Bool) (ls : List (Option ℕ)) where
     λ p lt top.
         elim (cases_eq p i) [
           | inl e ↦
-              let same : top.label ≡ a = some_is top.label a (sym top.here ∙ ap (λ n. get_or ls n None) e ∙ here) in
+              let same : top.label ≡ a = same_Some top.label a (sym top.here ∙ ap (λ n. get_or ls n None) e ∙ here) in
               absurd (both_ways (leads a c.label) f (subst (λ z. leads z c.label ≡ true) same (top.others c.place c.label (λ q. omega (arith, q, e, h.1)) h.0)))
           | inr d ↦ h.2 p (omega arith) top
         ],
@@ -99,11 +92,11 @@ module _ (leads : ℕ → ℕ → Bool) (ls : List (Option ℕ)) where
       ]
     where
       by : (label : Option ℕ) → led_by leads c i label ≡ true → q ≡ i → label ≡ Some b → leads c.label b ≡ true
-      by None t s e = absurd (none_is_no_label b e)
+      by None t s e = absurd (none-some b e)
       by (Some x) t s e =
           elim (or_cases (eqb i c.place) (leads c.label x) t) [
             | inl own ↦ absurd (d (s ∙ eqb-true i c.place own))
-            | inr led ↦ subst (λ z. leads c.label z ≡ true) (some_is x b e) led
+            | inr led ↦ subst (λ z. leads c.label z ≡ true) (same_Some x b e) led
           ]
 
   -- the candidate leads where it led at every place
@@ -115,6 +108,6 @@ module _ (leads : ℕ → ℕ → Bool) (ls : List (Option ℕ)) where
   not_led c i None o here f p top = let z : ◌≡◌ {A = ℕ} 0 1 = cc in omega arith
   not_led c i (Some b) o here f p top =
       let at : p ≡ c.place = o.only p top in
-      let same : top.label ≡ c.label = some_is top.label c.label (sym top.here ∙ ap (λ n. get_or ls n None) at ∙ o.here) in
+      let same : top.label ≡ c.label = same_Some top.label c.label (sym top.here ∙ ap (λ n. get_or ls n None) at ∙ o.here) in
       let fails = or_parts (eqb i c.place) (leads c.label b) f in
       both_ways (leads c.label b) fails.1 (subst (λ z. leads z b ≡ true) same (top.others i b (λ s. eqb-false i c.place fails.0 (s ∙ at)) here))

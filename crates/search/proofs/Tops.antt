@@ -4,7 +4,8 @@ use Rattle.std.specs.List.{remove}
 use Rattle.std.proofs.lemmas.Bool.{cases_Bool, cases_eq, cases_lt, lt-ltb, le-ltb, cond-true, cond-false, and_parts, and_from, or_cases, or_left, or_right, eqb-true, eq-eqb}
 use Rattle.std.proofs.lemmas.List.Edits.{get_or-remove_below, get_or-remove_above, length-remove}
 use Rattle.labels.specs.System.{System, Laws, LeadsAt}
-use Rattle.labels.proofs.Exact.{none_is_no_label, some_is, some_or_none}
+use Rattle.std.proofs.lemmas.Option.{none-some, same_Some}
+use Rattle.labels.proofs.Exact.{some_or_none}
 use Rattle.search.proofs.Passes.{labelled_inside}
 use Rattle.search.specs.Search.{leads_rest, first_leading, leading_place, LeadsFrom, Finds, labels_in, FoundWhereLawful, head_of, tail_of}
 
@@ -14,11 +15,11 @@ one_on k q = omega arith
 
 -- the test of the rest, by places
 rest_gives : (leads : ℕ → ℕ → Bool) (a p k : ℕ) (ls : List (Option ℕ)) → leads_rest leads a p k ls ≡ true → (q b : ℕ) → (k + q ≡ p → ⊥) → get_or ls q None ≡ Some b → leads a b ≡ true
-rest_gives leads a p k [] e q b d h = absurd (none_is_no_label b h)
-rest_gives leads a p k (None ∷ ls) e zero b d h = absurd (none_is_no_label b h)
+rest_gives leads a p k [] e q b d h = absurd (none-some b h)
+rest_gives leads a p k (None ∷ ls) e zero b d h = absurd (none-some b h)
 rest_gives leads a p k (None ∷ ls) e (suc q) b d h = rest_gives leads a p (k + 1) ls e q b (λ s. d (omega (arith, s))) h
 rest_gives leads a p k (Some c ∷ ls) e zero b d h =
-    let s = some_is c b h in
+    let s = same_Some c b h in
     elim (or_cases (eqb k p) (leads a c) (and_parts (eqb k p || leads a c) (leads_rest leads a p (k + 1) ls) e).0) [
       | inl t ↦ absurd (d (omega (arith, eqb-true k p t)))
       | inr t ↦ subst (λ z. leads a z ≡ true) s t
@@ -37,12 +38,12 @@ rest_from leads a p k (Some c ∷ ls) h =
 module _ (leads : ℕ → ℕ → Bool) (all : List (Option ℕ)) where
   -- the first place that leads stands where the definition says
   first_found : (k : ℕ) (ls : List (Option ℕ)) (p : ℕ) → ((q : ℕ) → get_or all (k + q) None ≡ get_or ls q None) → first_leading leads all k ls ≡ Some p → LeadsFrom leads all p
-  first_found k [] p same e = absurd (none_is_no_label p e)
+  first_found k [] p same e = absurd (none-some p e)
   first_found k (None ∷ ls) p same e = first_found (k + 1) ls p (λ q. ap (λ n. get_or all n None) (one_on k q) ∙ same (suc q)) e
   first_found k (Some a ∷ ls) p same e =
       elim (cases_Bool (leads_rest leads a k 0 all)) [
         | inl t ↦
-            let s : k ≡ p = some_is k p (sym (cond-true (leads_rest leads a k 0 all) (Some k) (first_leading leads all (k + 1) ls) t) ∙ e) in
+            let s : k ≡ p = same_Some k p (sym (cond-true (leads_rest leads a k 0 all) (Some k) (first_leading leads all (k + 1) ls) t) ∙ e) in
             subst (LeadsFrom leads all) s (record {
               label = a;
               here = ap (λ n. get_or all n None) start ∙ same 0;
@@ -56,19 +57,19 @@ module _ (leads : ℕ → ℕ → Bool) (all : List (Option ℕ)) where
 
   -- a place that leads is not passed over
   first_finds : (k : ℕ) (ls : List (Option ℕ)) (q a : ℕ) → get_or ls q None ≡ Some a → leads_rest leads a (k + q) 0 all ≡ true → first_leading leads all k ls ≡ None → ⊥
-  first_finds k [] q a here t e = none_is_no_label a here
-  first_finds k (None ∷ ls) zero a here t e = none_is_no_label a here
+  first_finds k [] q a here t e = none-some a here
+  first_finds k (None ∷ ls) zero a here t e = none-some a here
   first_finds k (None ∷ ls) (suc q) a here t e = first_finds (k + 1) ls q a here (ap (λ n. leads_rest leads a n 0 all) (one_on k q) ∙ t) e
   first_finds k (Some c ∷ ls) zero a here t e =
-      let s = some_is c a here in
+      let s = same_Some c a here in
       let u : leads_rest leads c k 0 all ≡ true = ap (λ z. leads_rest leads z k 0 all) s ∙ ap (λ n. leads_rest leads a n 0 all) start ∙ t in
-      none_is_no_label k (sym e ∙ cond-true (leads_rest leads c k 0 all) (Some k) (first_leading leads all (k + 1) ls) u)
+      none-some k (sym e ∙ cond-true (leads_rest leads c k 0 all) (Some k) (first_leading leads all (k + 1) ls) u)
     where
       start : k ≡ k + 0
       start = omega arith
   first_finds k (Some c ∷ ls) (suc q) a here t e =
       elim (cases_Bool (leads_rest leads c k 0 all)) [
-        | inl u ↦ none_is_no_label k (sym e ∙ cond-true (leads_rest leads c k 0 all) (Some k) (first_leading leads all (k + 1) ls) u)
+        | inl u ↦ none-some k (sym e ∙ cond-true (leads_rest leads c k 0 all) (Some k) (first_leading leads all (k + 1) ls) u)
         | inr f ↦ first_finds (k + 1) ls q a here (ap (λ n. leads_rest leads a n 0 all) (one_on k q) ∙ t) (sym (cond-false (leads_rest leads c k 0 all) (Some k) (first_leading leads all (k + 1) ls) f) ∙ e)
       ]
 
@@ -113,15 +114,15 @@ place_of_label (None ∷ ls) k h =
     (suc r.0, r.1, others r.0 r.2)
   where
     others : (p : ℕ) → ((q b : ℕ) → (q ≡ p → ⊥) → get_or ls q None ≡ Some b → (j : ℕ) × (j < length (labels_in ls)) × (j ≡ k → ⊥) × (get_or (labels_in ls) j 0 ≡ b)) → (q b : ℕ) → (q ≡ suc p → ⊥) → get_or (None ∷ ls) q None ≡ Some b → (j : ℕ) × (j < length (labels_in ls)) × (j ≡ k → ⊥) × (get_or (labels_in ls) j 0 ≡ b)
-    others p r zero b d e = absurd (none_is_no_label b e)
+    others p r zero b d e = absurd (none-some b e)
     others p r (suc q) b d e = r q b (λ s. d (ap suc s)) e
 place_of_label (Some a ∷ ls) zero h = (0, refl, others)
   where
     any : (ls : List (Option ℕ)) (q b : ℕ) → get_or ls q None ≡ Some b → (j : ℕ) × (j < length (labels_in ls)) × (get_or (labels_in ls) j 0 ≡ b)
-    any [] q b e = absurd (none_is_no_label b e)
-    any (None ∷ ls) zero b e = absurd (none_is_no_label b e)
+    any [] q b e = absurd (none-some b e)
+    any (None ∷ ls) zero b e = absurd (none-some b e)
     any (None ∷ ls) (suc q) b e = any ls q b e
-    any (Some c ∷ ls) zero b e = (0, omega arith, some_is c b e)
+    any (Some c ∷ ls) zero b e = (0, omega arith, same_Some c b e)
     any (Some c ∷ ls) (suc q) b e = let r = any ls q b e in (suc r.0, omega (arith, r.1), r.2)
 
     others : (q b : ℕ) → (q ≡ 0 → ⊥) → get_or (Some a ∷ ls) q None ≡ Some b → (j : ℕ) × (j < length (a ∷ labels_in ls)) × (j ≡ 0 → ⊥) × (get_or (a ∷ labels_in ls) j 0 ≡ b)
@@ -132,7 +133,7 @@ place_of_label (Some a ∷ ls) (suc k) h =
     (suc r.0, r.1, others r.0 r.2)
   where
     others : (p : ℕ) → ((q b : ℕ) → (q ≡ p → ⊥) → get_or ls q None ≡ Some b → (j : ℕ) × (j < length (labels_in ls)) × (j ≡ k → ⊥) × (get_or (labels_in ls) j 0 ≡ b)) → (q b : ℕ) → (q ≡ suc p → ⊥) → get_or (Some a ∷ ls) q None ≡ Some b → (j : ℕ) × (j < length (a ∷ labels_in ls)) × (j ≡ suc k → ⊥) × (get_or (a ∷ labels_in ls) j 0 ≡ b)
-    others p r zero b d e = (0, omega arith, (λ s. omega (arith, s)), some_is a b e)
+    others p r zero b d e = (0, omega arith, (λ s. omega (arith, s)), same_Some a b e)
     others p r (suc q) b d e = let j = r q b (λ s. d (ap suc s)) e in (suc j.0, omega (arith, j.1), (λ s. j.2 (omega (arith, s))), j.3)
 
 -- a place among the labels that leads all others there leads in the buffer, so that the search finds a place

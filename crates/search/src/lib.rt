@@ -4,6 +4,7 @@
 
 mod entry;
 mod gather;
+mod leads;
 mod search;
 mod waiting_row;
 mod writing_row;

@@ -1,7 +1,8 @@
 use super::entry::Entry;
 
+// No generic row for this one and the waiting row: `Row<()>` and `Row<u16>` would not say what they are.
 /// A seat with its standing writing, a map number and its label, or without one.
-#[derive(Clone, Copy)]
+#[derive(Clone, Copy, Default, PartialEq, Eq, Debug)]
 pub struct WritingRow {
     pub seat: u8,
     pub label: Option<u32>,

@@ -1,7 +1,6 @@
-use Rattle.std.proofs.Common.{◌≡◌, ◌≤◌, length, take}
+use Rattle.std.proofs.Common.{◌≡◌, take}
 use Rattle.over.specs.Over.{outer_parts}
-use Rattle.labels.specs.ShortList.{listed}
 use Rattle.composition.proofs.steps.outer_parts.Given as goal
 
 abbrev pub invariant-loop-label : goal.invariant-loop-label
-invariant-loop-label l = (listed l.parts ≡ outer_parts l.width (take l.label-index l.labels)) × (length (listed l.parts) ≤ l.label-index)
+invariant-loop-label l = l.parts ≡ outer_parts l.width (take l.label-index l.labels)

@@ -1,4 +1,4 @@
-use Rattle.std.proofs.Common.{◌≡◌, ◌-◌, drop}
+use Rattle.std.proofs.Common.{◌≡◌, ◌-◌, true, take}
 use Rattle.labels.specs.Plain.{least_from, beats_all}
 use Rattle.labels.proofs.Heptad.{beats7}
 use Rattle.plain.proofs.heptad.least_winner.Given as goal
@@ -9,4 +9,4 @@ invariant-candidate l = least_from beats7 l.labels (7 - l.x) l.x ≡ least_from 
 
 -- the candidate beats every label so far
 abbrev pub invariant-loop-y : goal.invariant-loop-y
-invariant-loop-y l = beats_all beats7 l.x (drop l.y-index l.labels) ≡ beats_all beats7 l.x l.labels
+invariant-loop-y l = beats_all beats7 l.x (take l.y-index l.labels) ≡ true

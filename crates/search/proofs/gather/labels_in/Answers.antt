@@ -1,8 +1,5 @@
 -- Each turn gathers a label, or passes an entry without one.
-use Rattle.std.proofs.Common.{map, take, sym, ap, ◌∙◌}
-use Rattle.std.proofs.lemmas.List.{take_all}
-use Rattle.labels.specs.ShortList.{listed}
-use Rattle.search.specs.Search.{labels_in}
+use Rattle.std.proofs.Common.{◌∙◌}
 use Rattle.search.proofs.Gathers.{gathered, passed}
 use Rattle.search.proofs.gather.labels_in.Goals as goal
 use Rattle.search.proofs.gather.labels_in.Goals.{in-Some, in_default}
@@ -10,10 +7,8 @@ use Rattle.search.proofs.gather.labels_in.Goals.{in-Some, in_default}
 pub loop-entry-preserved : goal.loop-entry-preserved
 loop-entry-preserved g c =
     let f = g.E.Entry.labelled in
+    let xs = c.args.entries.now in
     elim c.match-label.branch [
-      | in-Some w ↦ gathered f c.args.entries.now c.loop-entry.entry-index c.entry-item.result c.loop-entry-test.true c.entry-item.is (listed c.loop-entry.found) (listed c.match-label.found) c.loop-entry.invariant w.in-Some.label (sym c.label.ensures ∙ w.in-Some.is) (ap listed w.found-is ∙ w.push.ensures)
-      | in_default w ↦ passed f c.args.entries.now c.loop-entry.entry-index c.entry-item.result c.loop-entry-test.true c.entry-item.is (listed c.loop-entry.found) (listed c.match-label.found) c.loop-entry.invariant (sym c.label.ensures ∙ w.in_default.is) (ap listed w.found-is)
+      | in-Some w ↦ gathered f xs c.loop-entry.entry-index c.entry-item.result c.loop-entry-test.true c.entry-item.is c.label.result c.label.ensures c.loop-entry.found c.match-label.found c.loop-entry.invariant w.in-Some.label w.in-Some.is (w.found-is ∙ w.push.ensures)
+      | in_default w ↦ passed f xs c.loop-entry.entry-index c.entry-item.result c.loop-entry-test.true c.entry-item.is c.label.result c.label.ensures c.loop-entry.found c.match-label.found c.loop-entry.invariant w.in_default.is w.found-is
     ]
-
-pub returns : goal.returns
-returns g c = c.loop-entry.invariant ∙ ap (λ l. take 20 (labels_in (map g.E.Entry.labelled l))) (take_all c.loop-entry.entry-index c.args.entries.now c.loop-entry-test.false)

@@ -1,18 +1,18 @@
--- Each turn narrows the search to the next candidate.
-use Rattle.std.proofs.Common.{map, sym, ◌∙◌, arith}
+-- Each turn narrows the search to the next candidate, and the last has narrowed it to the one place that can lead.
+use Rattle.std.proofs.Common.{map, arith}
 use Rattle.std.proofs.lemmas.List.{length-map}
-use Rattle.search.specs.Sides.{leads_by}
-use Rattle.search.proofs.Passes.{one_way_by, label_at, next_turn, narrowed}
+use Rattle.search.proofs.Passes.{label_at, next_turn, narrowed}
 use Rattle.search.proofs.search.narrow.Goals as goal
 
 pub loop-place-preserved : goal.loop-place-preserved
 loop-place-preserved g c =
-    let s = g.S.LabelSystem.meaning c.args.system.now in
     let f = g.E.Entry.labelled in
-    next_turn (leads_by c.args.side s) (map f c.args.entries.now) (one_way_by c.args.side s (g.met.S.LabelSystem.shows c.args.system.now)) c.loop-place.place c.label.result c.loop-place.best c.next_best-best.result (label_at f c.args.entries.now c.loop-place.place c.index-entries-place.result c.loop-place-test.true c.index-entries-place.is ∙ sym c.label.ensures) c.next_best-best.ensures c.loop-place.invariant
+    let xs = c.args.entries.now in
+    let i = c.loop-place.place in
+    next_turn (g.L.Leads.relation c.args.by.now) (map f xs) (g.met.L.Leads.one_way c.args.by.now) i c.label.result c.loop-place.best c.next_best-best.result (label_at f xs i c.index-entries-place.result c.label.result c.loop-place-test.true c.index-entries-place.is c.label.ensures) c.next_best-best.ensures c.loop-place.invariant
 
 pub returns : goal.returns
 returns g c =
-    let s = g.S.LabelSystem.meaning c.args.system.now in
     let f = g.E.Entry.labelled in
-    narrowed (leads_by c.args.side s) (map f c.args.entries.now) c.loop-place.place c.loop-place.best (omega (arith, length-map c.args.entries.now f, c.loop-place-test.false)) c.loop-place.invariant
+    let xs = c.args.entries.now in
+    narrowed (g.L.Leads.relation c.args.by.now) (map f xs) c.loop-place.place c.loop-place.best (omega (arith, length-map xs f, c.loop-place-test.false)) c.loop-place.invariant

@@ -1,14 +1,7 @@
--- Which of two labels leads, for the one search that serves head and tail.
+-- The candidate for the place that leads, and what the two passes of a search find.
 use Rattle.std.specs.Prelude.{◌≡◌, ℕ, Bool, true, cond, ◌||◌, List, Some, None, Option, MatchOption, ◌==◌, slice_index_or}
-use Rattle.labels.specs.System.{System}
 use Rattle.search.specs.Search.{LeadsFrom}
-use Rattle.search.specs.declared.search.Side.{Side}
-use Rattle.search.specs.declared.search.Side.TheVariants.{Head, Tail}
 use Rattle.search.specs.declared.search.Candidate.{Candidate}
-
-abbrev pub leads_by : Side → System → ℕ → ℕ → Bool
-leads_by Head s a b = s.beats a b
-leads_by Tail s a b = s.beats b a
 
 -- a labelled place is the next candidate where there is none yet, or where its label leads the candidate's
 abbrev pub next_best : (ℕ → ℕ → Bool) → ℕ → Option ℕ → Option Candidate → Option Candidate
