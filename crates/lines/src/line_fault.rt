@@ -5,7 +5,7 @@ ghost use Rattle.lines.specs.Faults.{fault_number};
 #[derive(Clone, Copy, PartialEq, Eq, Debug)]
 pub enum LineFault {
     /// The buffer has fewer than 32 bytes.
-    ShortBuffer,
+    ShortBuffer = 19,
 }
 
 impl LineFault {
@@ -13,8 +13,6 @@ impl LineFault {
     pub fn number(&self) -> u8
         ensures { result ≡ fault_number self.now }
     {
-        match self {
-            LineFault::ShortBuffer => 19,
-        }
+        *self as u8
     }
 }
