@@ -1,5 +1,5 @@
 ghost use Rattle.std.specs.Prelude.{◌≡◌, ℕ, ◌+◌, ◌≤◌, List, ◌++◌, length, codes, decimal, Result};
-ghost use Rattle.station.specs.declared.answer.Answer.{Answer as AnyAnswer};
+ghost use Rattle.station.specs.declared.answer.Answer.{Answer};
 ghost use Rattle.lines.specs.Drafts.{HasRoom};
 ghost use Rattle.lines.specs.Lines.{started_text, reading_text, verdict_text};
 ghost use Rattle.lines.specs.Replies.{done_in, started_in, reading_in, verdict_in, label_in, or_misplaced};
@@ -10,7 +10,7 @@ use station::{Answer, Reading, Started};
 /// What calls of one kind answer: what of a station's answer it is, and how a line tells it.
 pub(crate) trait Answered: Copy {
     /// What of an answer it is; an answer of another kind is misplaced.
-    ghost part_in: { AnyAnswer → Result Self ℕ };
+    ghost part_in: { Answer → Result Self ℕ };
 
     /// How a line tells it.
     ghost text: { Self → List ℕ };
