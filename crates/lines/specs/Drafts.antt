@@ -1,6 +1,6 @@
--- What a draft holds so far.
-use Rattle.std.specs.Prelude.{ℕ, List, take}
-use Rattle.lines.specs.declared.draft.Draft.{Draft}
+-- What is asked of a draft before more is put to it.
+use Rattle.std.specs.Prelude.{ℕ, ◌+◌, ◌≤◌}
+use Rattle.arrayvec.specs.ArrayString.{ArrayString, array_string_len}
 
-abbrev pub text : Draft → List ℕ
-text d = take d.size d.bytes
+abbrev pub HasRoom : ArrayString → ℕ → Type 0
+HasRoom draft n = array_string_len draft + n ≤ 32

@@ -1,5 +1,5 @@
 -- The entry for a reply to a call.
-use Rattle.std.specs.Prelude.{ℕ, Bool, Ok, Err, Result}
+use Rattle.std.specs.Prelude.{ℕ, Bool, None, Some, Ok, Err, Option, Result}
 use Rattle.station.specs.declared.call.Call.{Call}
 use Rattle.station.specs.declared.call.Call.TheVariants as call
 use Rattle.station.specs.declared.answer.Answer.{Answer}
@@ -15,6 +15,11 @@ use Rattle.lines.specs.declared.entry.Entry.TheVariants.{Open, Join, Leave, Star
 -- number 0, which no reason has: a reader would see that something is wrong.
 abbrev pub misplaced : {X : Type 0} → Result X ℕ
 misplaced = Err 0
+
+-- what was found in an answer, if anything was
+abbrev pub or_misplaced : {X : Type 0} → Option X → Result X ℕ
+or_misplaced None = misplaced
+or_misplaced (Some x) = Ok x
 
 abbrev pub done_in : Answer → Result Unit ℕ
 done_in Done = Ok tt

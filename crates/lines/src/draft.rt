@@ -1,11 +1,17 @@
-ghost use Rattle.std.specs.Prelude.{◌≡◌, ◌≤◌, length};
+ghost use Rattle.std.specs.Prelude.{◌≡◌, ◌≤◌, ◌++◌, length};
+ghost use Rattle.lines.specs.Drafts.{HasRoom};
 
-mod putting;
+use arrayvec::ArrayString;
+use itoa::{Buffer, Integer};
 
 /// A line that is being written: it goes to the caller's buffer only once it is whole.
-#[derive(Drop)]
-pub(crate) struct Draft {
-    bytes: [u8; 32],
-    size: u8,
-    ghost fits: { (size ≤ 32) × (length bytes ≡ 32) },
+pub(crate) type Draft = ArrayString<32>;
+
+/// Puts a number in base ten.
+pub(crate) fn put_number<I: Integer>(draft: &mut Draft, number: I)
+    requires { HasRoom draft.old I.MAX_STR_LEN }
+    ensures after { draft.new.bytes ≡ draft.old.bytes ++ I.text number }
+    ensures short { length (I.text number) ≤ I.MAX_STR_LEN }
+{
+    draft.push_str(Buffer::new().format(number));
 }

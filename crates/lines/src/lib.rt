@@ -2,6 +2,7 @@
 
 #![tactic(auto)]
 
+mod answered;
 mod draft;
 mod entry;
 mod line_fault;

@@ -1,8 +1,9 @@
 ghost use Rattle.std.specs.Prelude.{◌≡◌};
-ghost use Rattle.lines.specs.Replies.{outcome, done_in, started_in, reading_in, verdict_in, label_in, entry_for};
+ghost use Rattle.lines.specs.Replies.{outcome as outcome_of, entry_for};
 
+use super::answered::Answered;
 use super::entry::Entry;
-use station::{Answer, Call, Reading, Refusal, Started};
+use station::{Answer, Call, Refusal};
 
 /// The number in place of an answer that is not its call's. A station gives none such, and no refusal has this number.
 const MISPLACED: u8 = 0;
@@ -12,66 +13,24 @@ pub fn entry_of(call: Call, reply: Result<Answer, Refusal>) -> Entry
     ensures { result ≡ entry_for call reply }
 {
     match call {
-        Call::Open(_) => Entry::Open(done(reply)),
-        Call::Join(_) => Entry::Join(done(reply)),
-        Call::Leave(_) => Entry::Leave(done(reply)),
-        Call::Start => Entry::Start(started(reply)),
-        Call::Finish(_) => Entry::Finish(done(reply)),
-        Call::Write(_, _) => Entry::Write(done(reply)),
-        Call::Strike(_) => Entry::Strike(done(reply)),
-        Call::Read => Entry::Read(reading(reply)),
-        Call::Earlier(_, _) => Entry::Earlier(verdict(reply)),
-        Call::Newer(_, _) => Entry::Newer(verdict(reply)),
-        Call::Label(_) => Entry::Label(label(reply)),
+        Call::Open(_) => Entry::Open(outcome(reply)),
+        Call::Join(_) => Entry::Join(outcome(reply)),
+        Call::Leave(_) => Entry::Leave(outcome(reply)),
+        Call::Start => Entry::Start(outcome(reply)),
+        Call::Finish(_) => Entry::Finish(outcome(reply)),
+        Call::Write(_, _) => Entry::Write(outcome(reply)),
+        Call::Strike(_) => Entry::Strike(outcome(reply)),
+        Call::Read => Entry::Read(outcome(reply)),
+        Call::Earlier(_, _) => Entry::Earlier(outcome(reply)),
+        Call::Newer(_, _) => Entry::Newer(outcome(reply)),
+        Call::Label(_) => Entry::Label(outcome(reply)),
     }
 }
 
-fn done(reply: Result<Answer, Refusal>) -> Result<(), u8>
-    ensures { result ≡ outcome done_in reply }
+/// What a call's reply tells: what the call answers, or its refusal's number.
+fn outcome<T: Answered>(reply: Result<Answer, Refusal>) -> Result<T, u8>
+    ensures { result ≡ outcome_of T.part_in reply }
 {
-    match reply {
-        Ok(Answer::Done) => Ok(()),
-        Ok(_) => Err(MISPLACED),
-        Err(refusal) => Err(refusal.reason.number()),
-    }
-}
-
-fn started(reply: Result<Answer, Refusal>) -> Result<Started, u8>
-    ensures { result ≡ outcome started_in reply }
-{
-    match reply {
-        Ok(Answer::Started(started)) => Ok(started),
-        Ok(_) => Err(MISPLACED),
-        Err(refusal) => Err(refusal.reason.number()),
-    }
-}
-
-fn reading(reply: Result<Answer, Refusal>) -> Result<Reading, u8>
-    ensures { result ≡ outcome reading_in reply }
-{
-    match reply {
-        Ok(Answer::Reading(reading)) => Ok(reading),
-        Ok(_) => Err(MISPLACED),
-        Err(refusal) => Err(refusal.reason.number()),
-    }
-}
-
-fn verdict(reply: Result<Answer, Refusal>) -> Result<bool, u8>
-    ensures { result ≡ outcome verdict_in reply }
-{
-    match reply {
-        Ok(Answer::Verdict(verdict)) => Ok(verdict),
-        Ok(_) => Err(MISPLACED),
-        Err(refusal) => Err(refusal.reason.number()),
-    }
-}
-
-fn label(reply: Result<Answer, Refusal>) -> Result<u32, u8>
-    ensures { result ≡ outcome label_in reply }
-{
-    match reply {
-        Ok(Answer::Labelled(label)) => Ok(label),
-        Ok(_) => Err(MISPLACED),
-        Err(refusal) => Err(refusal.reason.number()),
-    }
+    let answer = reply.map_err(|refusal| refusal.reason.number())?;
+    T::part_of(answer).ok_or(MISPLACED)
 }
