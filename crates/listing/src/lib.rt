@@ -8,6 +8,7 @@ mod stepping;
 #[cfg(test)]
 mod tests;
 mod traces;
+mod words;
 
 pub use fault::{Cause, ReplayFault};
 pub use stepping::step;

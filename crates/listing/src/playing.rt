@@ -1,4 +1,4 @@
-ghost use Rattle.std.specs.Prelude.{◌≡◌, ◌≤◌, [], ◌++◌, length, is_some, IfOk, OnOk};
+ghost use Rattle.std.specs.Prelude.{◌≡◌, [], ◌++◌, is_some, IfOk, OnOk};
 ghost use Rattle.station.specs.View.{table};
 ghost use Rattle.trace.specs.Words.{call_of};
 ghost use Rattle.lines.specs.Lines.{line_bytes};
@@ -7,20 +7,20 @@ ghost use Rattle.listing.specs.Steps.{left, entry_from, entry_told, ends as ends
 
 use super::fault::{Cause, ReplayFault};
 use super::stepping::step;
+use super::words::Words;
 use labels::LabelSystem;
 use lines::{Entry, Line, entry_of, write_line};
 use station::{Answer, Station};
 use std::alloc::{AllocError, Global};
-use trace::{WordFault, next_word, read_word};
+use trace::{WordFault, read_word};
 
 /// Puts the words of a trace after its head to a new station, and lists what came of them.
 pub(crate) fn play<S: LabelSystem + Drop>(
     heap: Global,
     system: S,
-    words: &[u8],
+    words: Words,
 ) -> Result<Vec<u8>, AllocError>
-    requires { length words.now ≤ 16384 }
-    ensures { IfOk result (λ bytes. bytes.items ≡ listed (S.LabelSystem.meaning system) [] 1 (words_in words.now)) }
+    ensures { IfOk result (λ bytes. bytes.items ≡ listed (S.meaning system) [] 1 (words_in words.entry.bytes.now)) }
 {
     let mut station = Station::new(system);
     play_on(heap, &mut station, words)
@@ -29,34 +29,30 @@ pub(crate) fn play<S: LabelSystem + Drop>(
 fn play_on<S: LabelSystem>(
     heap: Global,
     station: &mut Station<S>,
-    words: &[u8],
+    words: Words,
 ) -> Result<Vec<u8>, AllocError>
-    requires { length words.now ≤ 16384 }
-    ensures { IfOk result (λ bytes. bytes.items ≡ listed (S.LabelSystem.meaning station.old.system) (table station.old) 1 (words_in words.now)) }
+    ensures { IfOk result (λ bytes. bytes.items ≡ listed (S.meaning station.old.system) (table station.old) 1 (words_in words.entry.bytes.now)) }
 {
     let mut out = Vec::new(heap);
-    let mut rest = words;
-    let mut index = 1;
-    while let Some((word, later)) = next_word(rest) {
+    for (index, word) in (1..).zip(words) {
         if !list_word(&mut out, station, index, word)? {
-            return Ok(out);
+            break;
         }
-        rest = later;
-        index += 1;
     }
     Ok(out)
 }
 
 /// Puts one word to the station and adds its line; answers whether the run goes on.
+#[tactic(auto, using(crate::proofs::Turns::entry_is, crate::proofs::Turns::goes_on_is))]
 fn list_word<S: LabelSystem>(
     out: &mut Vec<u8>,
     station: &mut Station<S>,
     index: u32,
     word: u32,
 ) -> Result<bool, AllocError>
-    ensures line { OnOk result (out.new.items ≡ out.old.items ++ line_bytes (record { index = index; entry = entry_told (S.LabelSystem.meaning station.old.system) (table station.old) (call_of word) })) }
+    ensures line { OnOk result (out.new.items ≡ out.old.items ++ line_bytes (record { index = index; entry = entry_told (S.meaning station.old.system) (table station.old) (call_of word) })) }
     ensures goes_on { IfOk result (λ more. more ≡ is_some (call_of word)) }
-    ensures leaves { table station.new ≡ left (S.LabelSystem.meaning station.old.system) (table station.old) (call_of word) }
+    ensures leaves { table station.new ≡ left (S.meaning station.old.system) (table station.old) (call_of word) }
     ensures system { station.new.system ≡ station.old.system }
 {
     let outcome = step(station, index, word);
@@ -85,13 +81,13 @@ fn entry_for(word: u32, outcome: Result<Answer, ReplayFault>) -> Entry
 fn ends(outcome: Result<Answer, ReplayFault>) -> bool
     ensures { result ≡ ends-run outcome }
 {
-    match outcome {
-        Ok(_) => false,
-        Err(fault) => match fault.cause {
-            Cause::Station(_) => false,
-            _ => true,
-        },
-    }
+    matches!(
+        outcome,
+        Err(ReplayFault {
+            cause: Cause::Length | Cause::Word(_),
+            ..
+        })
+    )
 }
 
 /// Adds a line.
@@ -99,9 +95,6 @@ pub(crate) fn put_line(out: &mut Vec<u8>, line: Line) -> Result<(), AllocError>
     ensures { OnOk result (out.new.items ≡ out.old.items ++ line_bytes line) }
 {
     let mut buffer = [0; 32];
-    match write_line(line, &mut buffer) {
-        Ok(size) => out.extend_from_slice(&buffer[0..size as usize]),
-        // The buffer has room for every line.
-        Err(_) => Ok(()),
-    }
+    let size = write_line(line, &mut buffer).unwrap();
+    out.extend_from_slice(&buffer[..usize::from(size)])
 }

@@ -14,21 +14,17 @@ pub fn step<S: LabelSystem>(
     index: u32,
     word: u32,
 ) -> Result<Answer, ReplayFault>
-    ensures stepped { Stepped (S.LabelSystem.meaning station.old.system) (table station.old) (table station.new) index word result }
+    ensures stepped { Stepped (S.meaning station.old.system) (table station.old) (table station.new) index word result }
     ensures system { station.new.system ≡ station.old.system }
 {
-    match answer_word(station, word) {
-        Ok(answer) => Ok(answer),
-        Err(cause) => Err(ReplayFault { index, cause }),
-    }
+    answer_word(station, word).map_err(|cause| ReplayFault { index, cause })
 }
 
 fn answer_word<S: LabelSystem>(station: &mut Station<S>, word: u32) -> Result<Answer, Cause>
-    ensures answers { result ≡ answered (S.LabelSystem.meaning station.old.system) (table station.old) (call_of word) }
-    ensures leaves { table station.new ≡ left (S.LabelSystem.meaning station.old.system) (table station.old) (call_of word) }
+    ensures answers { result ≡ answered (S.meaning station.old.system) (table station.old) (call_of word) }
+    ensures leaves { table station.new ≡ left (S.meaning station.old.system) (table station.old) (call_of word) }
     ensures system { station.new.system ≡ station.old.system }
 {
     let call = read_word(word)?;
-    let answer = station.serve(call)?;
-    Ok(answer)
+    Ok(station.serve(call)?)
 }

@@ -1,16 +1,15 @@
-ghost use Rattle.std.specs.Prelude.{◌≡◌, ◌≤◌, true, length, IfOk};
+ghost use Rattle.std.specs.Prelude.{◌≡◌, IfOk, MatchResult};
+ghost use Rattle.trace.specs.Piles.{pile_number};
 ghost use Rattle.listing.specs.Faults.{cause_number};
-ghost use Rattle.listing.specs.Listing.{listing_of, fault_line, fit_length, headed, over_pile, words_in, EveryTrace};
+ghost use Rattle.listing.specs.Listing.{listing_of, fault_line, over_pile, words_in, EveryTrace};
 
 use super::fault::Cause;
 use super::playing::{play, put_line};
+use super::words::Words;
 use lines::{Entry, Line};
 use piles::{Pile1, Pile2, Pile3, Pile4};
 use std::alloc::{AllocError, Global};
-use trace::{next_word, read_head};
-
-/// The longest trace, in bytes.
-const LONGEST: usize = 16_384;
+use trace::{Pile, read_head};
 
 /// The listing of a trace: a line for each word after the head, or for the fault that ends it.
 pub fn listing(heap: Global, trace: &[u8]) -> Result<Vec<u8>, AllocError>
@@ -23,44 +22,31 @@ pub fn listing(heap: Global, trace: &[u8]) -> Result<Vec<u8>, AllocError>
 fn list(heap: Global, trace: &[u8]) -> Result<Vec<u8>, AllocError>
     ensures { IfOk result (λ bytes. bytes.items ≡ listing_of trace.now) }
 {
-    if fits(trace) {
-        list_words(heap, trace)
-    } else {
-        only_fault(heap, Cause::Length)
+    match opened(trace) {
+        Ok((pile, words)) => list_over(heap, pile, words),
+        Err(cause) => only_fault(heap, cause),
     }
 }
 
-/// Whether a trace has a fit length.
-fn fits(trace: &[u8]) -> bool
-    ensures { result ≡ fit_length (length trace.now) }
+/// The pile that the head of a trace names, and the words after the head.
+fn opened(trace: &[u8]) -> Result<(Pile, Words<'_>), Cause>
+    ensures { MatchResult result (λ p. listing_of trace.now ≡ over_pile (pile_number p.0) (words_in p.1.bytes.now)) (λ cause. listing_of trace.now ≡ fault_line 0 (cause_number cause)) }
 {
-    trace.len() % 4 == 0 && trace.len() >= 4 && trace.len() <= LONGEST
-}
-
-/// The listing of words of which the first should be a head.
-fn list_words(heap: Global, trace: &[u8]) -> Result<Vec<u8>, AllocError>
-    requires { fit_length (length trace.now) ≡ true }
-    ensures { IfOk result (λ bytes. bytes.items ≡ headed (words_in trace.now)) }
-{
-    let Some((head, words)) = next_word(trace) else {
-        return Ok(Vec::new(heap));
-    };
-    match read_head(head) {
-        Ok(pile) => list_over(heap, pile, words),
-        Err(fault) => only_fault(heap, Cause::Word(fault)),
-    }
+    let mut words = Words::try_from(trace)?;
+    let head = words.next().ok_or(Cause::Length)?;
+    let pile = read_head(head)?;
+    Ok((pile, words))
 }
 
 /// The listing of words over the pile that a head names.
-fn list_over(heap: Global, pile: u8, words: &[u8]) -> Result<Vec<u8>, AllocError>
-    requires { length words.now ≤ 16384 }
-    ensures { IfOk result (λ bytes. bytes.items ≡ over_pile pile (words_in words.now)) }
+fn list_over(heap: Global, pile: Pile, words: Words) -> Result<Vec<u8>, AllocError>
+    ensures { IfOk result (λ bytes. bytes.items ≡ over_pile (pile_number pile) (words_in words.entry.bytes.now)) }
 {
     match pile {
-        1 => play(heap, Pile1::new(), words),
-        2 => play(heap, Pile2::new(), words),
-        3 => play(heap, Pile3::new(), words),
-        _ => play(heap, Pile4::new(), words),
+        Pile::One => play(heap, Pile1::new(), words),
+        Pile::Two => play(heap, Pile2::new(), words),
+        Pile::Three => play(heap, Pile3::new(), words),
+        Pile::Four => play(heap, Pile4::new(), words),
     }
 }
 

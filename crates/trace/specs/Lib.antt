@@ -1,3 +1,4 @@
 pub mod Words
+pub mod Piles
 pub mod Faults
 pub mod Bytes

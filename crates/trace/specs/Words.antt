@@ -1,5 +1,5 @@
 -- Trace words: the fields of a word, the word of a call, and the call of a word.
-use Rattle.std.specs.Prelude.{ℕ, ◌+◌, ◌*◌, ◌/◌, ◌%◌, ◌^◌, ◌<◌, cond, ◌&&◌, List, [], ◌∷◌, Some, None, Option, ◌==◌, nat_le, slice_index_or}
+use Rattle.std.specs.Prelude.{ℕ, ◌+◌, ◌*◌, ◌/◌, ◌%◌, ◌^◌, cond, ◌&&◌, List, [], ◌∷◌, Some, None, Option, ◌==◌, nat_le, slice_index_or}
 use Rattle.station.specs.declared.call.Call.{Call}
 use Rattle.station.specs.declared.call.Call.TheVariants.{Open, Join, Leave, Start, Finish, Write, Strike, Read, Earlier, Newer, Label}
 
@@ -64,20 +64,6 @@ map_in Read = 0
 map_in (Earlier first second) = 0
 map_in (Newer first second) = 0
 map_in (Label seat) = 0
-
--- the seats of a call are bytes
-abbrev pub Seats_fit : Call → Type 0
-Seats_fit (Open seats) = seats < 256
-Seats_fit (Join seat) = seat < 256
-Seats_fit (Leave seat) = seat < 256
-Seats_fit Start = Unit {0}
-Seats_fit (Finish seat) = seat < 256
-Seats_fit (Write seat map) = seat < 256
-Seats_fit (Strike seat) = seat < 256
-Seats_fit Read = Unit {0}
-Seats_fit (Earlier first second) = (first < 256) × (second < 256)
-Seats_fit (Newer first second) = (first < 256) × (second < 256)
-Seats_fit (Label seat) = seat < 256
 
 -- the head of a trace over a pile, and the pile in a head
 abbrev pub head_word : ℕ → ℕ

@@ -1,15 +1,18 @@
-ghost use Rattle.std.specs.Prelude.{◌≡◌};
-ghost use Rattle.trace.specs.Faults.{fault_number};
+ghost use Rattle.std.specs.Prelude.{◌≡◌, Some};
+ghost use Rattle.trace.specs.Faults.{fault_number, fault_text};
 
-/// Why a word is not read, or a call not written.
+use std::error::Error;
+use std::fmt;
+
+/// Why a word is not read, or a call not written, under the number by which the fault is known.
 #[derive(Clone, Copy, PartialEq, Eq, Debug)]
 pub enum WordFault {
     /// The map number has no room in a word: it is above 65,535.
-    MapTooLarge,
+    MapTooLarge = 5,
     /// The word is not a head.
-    NotAHead,
+    NotAHead = 17,
     /// The word is not a call.
-    NotACall,
+    NotACall = 18,
 }
 
 impl WordFault {
@@ -17,10 +20,20 @@ impl WordFault {
     pub fn number(&self) -> u8
         ensures { result ≡ fault_number self.now }
     {
-        match self {
-            WordFault::MapTooLarge => 5,
-            WordFault::NotAHead => 17,
-            WordFault::NotACall => 18,
-        }
+        *self as u8
     }
 }
+
+impl fmt::Display for WordFault {
+    ghost output = { λ fault. Some (fault_text fault) };
+
+    fn fmt<W: fmt::Write>(&self, f: &mut fmt::Formatter<W>) -> fmt::Result {
+        f.write_str(match self {
+            WordFault::MapTooLarge => "the map number is above 65535",
+            WordFault::NotAHead => "the word is not a head",
+            WordFault::NotACall => "the word is not a call",
+        })
+    }
+}
+
+impl Error for WordFault {}

@@ -1,24 +1,11 @@
 ghost use Rattle.std.specs.Prelude.{◌≡◌, ◌+◌, ◌*◌, ◌%◌, ◌^◌, ◌<◌};
 
-/// The lowest 4 bits.
-pub(crate) fn low_four(bits: u32) -> u8
-    ensures { result ≡ bits % 16 }
+/// The lowest bits of a word.
+pub(crate) fn low<const BITS: u32>(word: u32) -> u32
+    requires { BITS < 32 }
+    ensures { result ≡ word % 2 ^ BITS }
 {
-    (bits & 0xf) as u8
-}
-
-/// The lowest 8 bits.
-pub(crate) fn low_eight(bits: u32) -> u8
-    ensures { result ≡ bits % 256 }
-{
-    (bits & 0xff) as u8
-}
-
-/// The lowest 16 bits.
-pub(crate) fn low_sixteen(bits: u32) -> u32
-    ensures { result ≡ bits % 65536 }
-{
-    bits & 0xffff
+    word % (1 << BITS)
 }
 
 /// The word of a kind and a seat, and of what stands below the seat.

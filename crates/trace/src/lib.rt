@@ -6,11 +6,13 @@ mod bytes;
 mod fault;
 mod fields;
 mod head;
+mod pile;
 mod word;
 
 pub use bytes::next_word;
 pub use fault::WordFault;
 pub use head::read_head;
+pub use pile::Pile;
 pub use word::{read_word, write_word};
 
 #[cfg(test)]

@@ -106,7 +106,8 @@ fn a_map_number_without_room(rt: HostRuntime) {
 #[test]
 fn heads(rt: HostRuntime) -> Result<(), Fail> {
     for pile in 1u8..5 {
-        assert_eq!(rt; read_head(0xF000_0000 + u32::from(pile))?, pile);
+        let read = read_head(0xF000_0000 + u32::from(pile))?;
+        assert_eq!(rt; read.number(), pile);
     }
     for word in [
         0xF000_0000u32,

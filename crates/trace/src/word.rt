@@ -1,9 +1,9 @@
 ghost use Rattle.std.specs.Prelude.{◌≡◌, ◌^◌, ◌<◌, ◌≤◌, IfOk, Some};
-ghost use Rattle.trace.specs.Words.{word_of, call_of, named_by, map_in, Seats_fit};
+ghost use Rattle.trace.specs.Words.{word_of, call_of, named_by, map_in};
 ghost use Rattle.trace.specs.Faults.{or_fault, written};
 
 use super::fault::WordFault;
-use super::fields::{low_eight, low_sixteen, word};
+use super::fields::{low, word};
 use station::Call;
 
 /// The call that a word holds.
@@ -11,15 +11,10 @@ pub fn read_word(word: u32) -> Result<Call, WordFault>
     ensures reads { result ≡ or_fault WordFault.NotACall (call_of word) }
     ensures back { IfOk result (λ call. (word_of call ≡ word) × (map_in call ≤ 65535)) }
 {
-    let Some(call) = named(word) else {
-        return Err(WordFault::NotACall);
-    };
     // A spare bit that is set does not come back when the call is written.
-    if packed(call) == word {
-        Ok(call)
-    } else {
-        Err(WordFault::NotACall)
-    }
+    named(word)
+        .filter(|call| packed(*call) == word)
+        .ok_or(WordFault::NotACall)
 }
 
 /// The word that holds a call.
@@ -37,15 +32,16 @@ pub fn write_word(call: Call) -> Result<u32, WordFault>
 fn named(word: u32) -> Option<Call>
     ensures { result ≡ named_by word }
 {
-    let seat = low_eight(word >> 20);
-    let second = low_eight(word >> 12);
+    let seat = low::<8>(word >> 20) as u8;
+    let second = low::<8>(word >> 12) as u8;
+    // A kind's number stands here and in `packed`, beside its call: an enum of the kinds would be a third list of them.
     match word >> 28 {
         1 => Some(Call::Open(seat)),
         2 => Some(Call::Join(seat)),
         3 => Some(Call::Leave(seat)),
         4 => Some(Call::Start),
         5 => Some(Call::Finish(seat)),
-        6 => Some(Call::Write(seat, low_sixteen(word))),
+        6 => Some(Call::Write(seat, low::<16>(word))),
         7 => Some(Call::Strike(seat)),
         8 => Some(Call::Read),
         9 => Some(Call::Earlier(seat, second)),
@@ -60,14 +56,6 @@ fn packed(call: Call) -> u32
     requires { map_in call ≤ 65535 }
     ensures is { result ≡ word_of call }
     ensures back { call_of result ≡ Some call }
-{
-    assembled(call)
-}
-
-fn assembled(call: Call) -> u32
-    requires { map_in call ≤ 65535 }
-    ensures is { result ≡ word_of call }
-    ensures fits { Seats_fit call }
 {
     match call {
         Call::Open(seats) => word(1, seats, 0),

@@ -1,20 +1,17 @@
 -- Each turn lists one word more.
-use Rattle.std.proofs.Common.{vec_items, sym, ◌∙◌}
+use Rattle.std.proofs.Common.{length, vec_items, ap, arith, sym, ◌∙◌}
 use Rattle.station.specs.View.{table}
-use Rattle.listing.proofs.Turns.{turned, stopped, fewer_left}
+use Rattle.listing.proofs.Turns.{few_words, turned}
 use Rattle.listing.proofs.playing.play_on.Goals as goal
 
-pub returns-then-not-branch : goal.returns-then-not-branch
-returns-then-not-branch g c =
-    let next = c.in-Some.ensures in
-    let listed = c.in_ok-list_word.ensures in
-    stopped g.S.LabelSystem.meaning c.loop-word.station.system (table c.loop-word.station) (vec_items c.loop-word.out) _ c.loop-word.rest.now c.loop-word.index c.loop-word.invariant.0 c.in-Some.word (vec_items c.list_word.new.out) next.0 next.1 listed.line (sym listed.goes_on ∙ c.if-not-branch.true)
+pub loop-index-init : goal.loop-index-init
+loop-index-init g c = grind (arith, few_words c.args.words.bytes.now)
 
-pub loop-word-preserved : goal.loop-word-preserved
-loop-word-preserved g c =
-    let next = c.in-Some.ensures in
-    let listed = c.in_ok-list_word.ensures in (
-      turned g.S.LabelSystem.meaning c.loop-word.station.system (table c.loop-word.station) (vec_items c.loop-word.out) _ c.loop-word.rest.now c.loop-word.index c.loop-word.invariant.0 c.in-Some.word (vec_items c.list_word.new.out) next.0 next.1 listed.line c.list_word.new.station.system (table c.list_word.new.station) c.in-Some.later.now c.list_word.ensures.system next.2 c.list_word.ensures.leaves (sym listed.goes_on ∙ c.if-not-branch.false),
-      c.list_word.ensures.system ∙ c.loop-word.invariant.1,
-      fewer_left c.loop-word.rest.now c.in-Some.later.now c.loop-word.index next.0 next.2 c.loop-word.invariant.2,
+pub loop-index-preserved : goal.loop-index-preserved
+loop-index-preserved g c =
+    let turn = c.in-Some.ensures.steps in
+    let put = c.in_ok-list_word.ensures in (
+      turned g.S.LabelSystem.meaning c.loop-index.station.system (table c.loop-index.station) c.in-Some.index c.in-Some.word (vec_items c.loop-index.out) c.loop-index.invariant.0 turn.0.0 turn.0.1 turn.1 (sym put.goes_on ∙ c.if-not-branch.false) put.line put.leaves put.system,
+      put.system ∙ c.loop-index.invariant.1,
+      omega (arith, ap length turn.1),
     )

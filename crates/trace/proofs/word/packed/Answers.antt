@@ -1,11 +1,21 @@
--- An assembled word is read as its call.
-use Rattle.std.proofs.Common.{ap, ◌∙◌}
-use Rattle.trace.specs.Words.{call_of}
-use Rattle.trace.proofs.Back.{back}
+-- The fields of a word of two seats are those of its call.
+use Rattle.std.proofs.Common.{◌≡◌, arith}
+use Rattle.std.proofs.lemmas.Bool.Decides.{nat_tests}
+use Rattle.trace.specs.Words.{kind_of, seat_of, second_of}
 use Rattle.trace.proofs.word.packed.Goals as goal
 
-pub returns : goal.returns
-returns c = record {
-  is = c.assembled.ensures.is;
-  back = ap call_of c.assembled.ensures.is ∙ back c.args.call c.assembled.ensures.fits c.requires;
-}
+pub returns-in-Earlier-clause-back : goal.returns-in-Earlier-clause-back
+returns-in-Earlier-clause-back c =
+    let w = c.word-in-Earlier.result in
+    let kind : kind_of w ≡ 9 = omega arith in
+    let first : seat_of w ≡ c.in-Earlier.first = omega arith in
+    let second : second_of w ≡ c.in-Earlier.second = omega arith in
+    grind (arith, nat_tests)
+
+pub returns-in-Newer-clause-back : goal.returns-in-Newer-clause-back
+returns-in-Newer-clause-back c =
+    let w = c.word-in-Newer.result in
+    let kind : kind_of w ≡ 10 = omega arith in
+    let first : seat_of w ≡ c.in-Newer.first = omega arith in
+    let second : second_of w ≡ c.in-Newer.second = omega arith in
+    grind (arith, nat_tests)
