@@ -1,5 +1,5 @@
 -- The number of each fault, and what is told in place of a word or a call.
-use Rattle.std.specs.Prelude.{ℕ, List, codes, cond, Some, None, Ok, Err, Option, Result, nat_le}
+use Rattle.std.specs.Prelude.{ℕ, cond, Some, None, Ok, Err, Option, Result, nat_le}
 use Rattle.station.specs.declared.call.Call.{Call}
 use Rattle.trace.specs.declared.fault.WordFault.{WordFault}
 use Rattle.trace.specs.declared.fault.WordFault.TheVariants.{MapTooLarge, NotAHead, NotACall}
@@ -9,12 +9,6 @@ abbrev pub fault_number : WordFault → ℕ
 fault_number MapTooLarge = 5
 fault_number NotAHead = 17
 fault_number NotACall = 18
-
--- what is printed of a fault
-abbrev pub fault_text : WordFault → List ℕ
-fault_text MapTooLarge = codes "the map number is above 65535"
-fault_text NotAHead = codes "the word is not a head"
-fault_text NotACall = codes "the word is not a call"
 
 -- what a word holds, or the fault where it holds nothing
 abbrev pub or_fault : {X : Type 0} → WordFault → Option X → Result X WordFault

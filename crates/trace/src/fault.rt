@@ -1,21 +1,21 @@
-ghost use Rattle.std.specs.Prelude.{◌≡◌, Some};
-ghost use Rattle.trace.specs.Faults.{fault_number, fault_text};
+ghost use Rattle.std.specs.Prelude.{◌≡◌};
 
-use std::error::Error;
-use std::fmt;
+use thiserror::Error;
 
-/// Why a word is not read, or a call not written, under the number by which the fault is known.
-#[derive(Clone, Copy, PartialEq, Eq, Debug)]
+/// Why a word is not read, or a call not written.
+#[derive(Clone, Copy, PartialEq, Eq, Debug, Error)]
 pub enum WordFault {
-    /// The map number has no room in a word: it is above 65,535.
+    #[error("the map number is above 65,535")]
     MapTooLarge = 5,
-    /// The word is not a head.
+    #[error("the word is not a head")]
     NotAHead = 17,
-    /// The word is not a call.
+    #[error("the word is not a call")]
     NotACall = 18,
 }
 
 impl WordFault {
+    ghost use Rattle.trace.specs.Faults.{fault_number};
+
     /// The number under which the fault is known.
     pub fn number(&self) -> u8
         ensures { result ≡ fault_number self.now }
@@ -23,17 +23,3 @@ impl WordFault {
         *self as u8
     }
 }
-
-impl fmt::Display for WordFault {
-    ghost output = { λ fault. Some (fault_text fault) };
-
-    fn fmt<W: fmt::Write>(&self, f: &mut fmt::Formatter<W>) -> fmt::Result {
-        f.write_str(match self {
-            WordFault::MapTooLarge => "the map number is above 65535",
-            WordFault::NotAHead => "the word is not a head",
-            WordFault::NotACall => "the word is not a call",
-        })
-    }
-}
-
-impl Error for WordFault {}
