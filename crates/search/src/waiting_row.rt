@@ -1,7 +1,7 @@
 use super::entry::Entry;
 
 /// A seat that waits for the start with its label, or that does not wait.
-#[derive(Clone, Copy)]
+#[derive(Clone, Copy, Default)]
 pub struct WaitingRow {
     pub seat: u8,
     pub label: Option<u32>,

@@ -1,7 +1,7 @@
 use super::entry::Entry;
 
 /// A seat with its standing writing, a map number and its label, or without one.
-#[derive(Clone, Copy)]
+#[derive(Clone, Copy, Default)]
 pub struct WritingRow {
     pub seat: u8,
     pub label: Option<u32>,
