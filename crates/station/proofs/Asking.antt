@@ -25,11 +25,12 @@ pub beside_alike : (t : Table) (seat : ℕ) → 1 ≤ seat → set (standing_ent
 beside_alike t zero low = absurd (omega arith)
 beside_alike t (suc place) low = ap (λ p. set (standing_entries t) p None) (place_before place)
 
--- Where a seat does not exist, what is asked after that makes no difference.
+-- what is asked after the first question
 abbrev pub but_first : List Asked → List Asked
 but_first [] = []
 but_first (q ∷ qs) = qs
 
+-- Where a seat does not exist, what is asked after that makes no difference.
 after_seat : (t : Table) (seat : ℕ) (f g : List Asked) → (1 ≤ seat → first_no f ≡ first_no g) → first_no (ask (seated t seat) NoSuchSeat seat ∷ f) ≡ first_no (ask (seated t seat) NoSuchSeat seat ∷ g)
 after_seat t zero f g same = refl
 after_seat t (suc place) f g same = ap (λ o. cond (seated t (suc place)) o (Some (record { reason = NoSuchSeat; seat = suc place }))) (same (omega arith))

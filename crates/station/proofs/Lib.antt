@@ -1,4 +1,3 @@
-pub mod Views
 pub mod Layouts
 pub mod Asking
 pub mod Orders

@@ -7,3 +7,6 @@ pub mod Told
 pub mod Orderly
 pub mod View
 pub mod Layout
+pub mod Given
+pub mod Lending
+pub mod Serving

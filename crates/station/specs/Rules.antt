@@ -1,5 +1,6 @@
 -- The rules of a station: what is asked of a call, what an accepted call answers, and what the table then holds.
-use Rattle.std.specs.Prelude.{◌≡◌, ℕ, ◌+◌, ◌-◌, Bool, false, not, ◌&&◌, ◌||◌, List, [], ◌∷◌, map, length, is_some, Some, None, Option, ◌==◌, nat_le, slice_index_or, slice_set}
+use Rattle.std.specs.Prelude.{◌≡◌, ℕ, ◌+◌, ◌-◌, Bool, not, ◌&&◌, List, [], ◌∷◌, map, length, is_some, Some, None, Option, ◌==◌, nat_le, slice_index_or, slice_set}
+use Rattle.std.specs.List.{list_any}
 use Rattle.labels.specs.System.{System}
 use Rattle.search.specs.Search.{head_of, tail_of, labels_in}
 use Rattle.search.specs.declared.waiting_row.WaitingRow.{WaitingRow}
@@ -53,8 +54,7 @@ abbrev pub standing_choice : System → Table → ℕ → Option ℕ
 standing_choice s t seat = s.choice (labels_in (slice_set (standing_entries t) (seat - 1) None))
 
 abbrev pub some_holds : Table → Bool
-some_holds [] = false
-some_holds (row ∷ t) = is_holding row || some_holds t
+some_holds t = list_any is_holding t
 
 abbrev pub waits : Table → ℕ → Bool
 waits t seat = is_some (waiting_label (row_of t seat))

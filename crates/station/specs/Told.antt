@@ -1,4 +1,4 @@
--- What a station with this table is asked about. A number that is no seat's has a blank row, and nothing is its own.
+-- What a station with this table is asked about. A number that is no seat's has a blank row, and no writing of its own.
 use Rattle.std.specs.Prelude.{ℕ, zero, suc, not, List, length, is_some, None, Option, slice_index_or, slice_set}
 use Rattle.labels.specs.System.{System}
 use Rattle.search.specs.Search.{labels_in}

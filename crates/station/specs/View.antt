@@ -1,7 +1,6 @@
 -- The table that a station holds.
-use Rattle.std.specs.Prelude.{take}
 use Rattle.station.specs.declared.station.Station.{Station}
 use Rattle.station.specs.Table.{Table}
 
 abbrev pub table : {S : Type 0} → Station S → Table
-table st = take st.seats st.rows
+table st = st.rows.items

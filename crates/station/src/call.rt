@@ -1,5 +1,5 @@
 /// The calls that a station answers.
-#[derive(Clone, Copy)]
+#[derive(Clone, Copy, PartialEq, Eq, Debug)]
 pub enum Call {
     /// Give the station this number of seats.
     Open(u8),

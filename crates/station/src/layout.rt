@@ -1,67 +1,78 @@
-ghost use Rattle.std.specs.Prelude.{◌≡◌, ℕ, ◌+◌, ◌<◌, ◌≤◌, length, take, slice_index_or};
+ghost use Rattle.std.specs.Prelude.{◌≡◌, ℕ, ◌<◌, List, length, map, IfSome, Option as Maybe};
+ghost use Rattle.labels.specs.System.{System};
+ghost use Rattle.search.specs.Search.{head_of, tail_of};
 ghost use Rattle.station.specs.declared.row.Row.{Row as SeatRow};
-ghost use Rattle.station.specs.Table.{blank};
+ghost use Rattle.station.specs.Table.{waiting_label, standing_label};
 ghost use Rattle.station.specs.Rules.{waiting_row, writing_row};
-ghost use Rattle.station.specs.Layout.{laid_out};
 
-use super::row::{Line, Row};
-use search::{WaitingRow, WritingRow};
+use super::row::Row;
+use labels::LabelSystem;
+use search::{Entry, WaitingRow, WritingRow, head, tail};
 
-/// A row as a search sees it.
-pub(crate) trait Laid {
+/// A row of the table as a search sees it, and the search for it.
+pub(crate) trait Laid: Entry + Copy + Default {
     ghost laid: { ℕ → SeatRow → Self };
+
+    ghost label_of: { SeatRow → Maybe ℕ };
+
+    ghost place_in: { System → List (Maybe ℕ) → Maybe ℕ };
 
     fn lay(seat: u8, row: Row) -> Self
         ensures { result ≡ laid seat row };
+
+    /// The place that the search finds.
+    fn find<S: LabelSystem>(system: &S, rows: &[Self]) -> Option<usize>
+        ensures value { result ≡ place_in (S.meaning system.now) (map Self.labelled rows.now) }
+        ensures within { IfSome result (λ place. place < length rows.now) };
+
+    ghost tells: { (seat : ℕ) (row : SeatRow) → Self.labelled (laid seat row) ≡ label_of row };
 }
 
+/// The start goes to the tail.
 impl Laid for WaitingRow {
+    ghost use Rattle.std.specs.Prelude.{refl};
+
     ghost laid = { waiting_row };
 
+    ghost label_of = { waiting_label };
+
+    ghost place_in = { tail_of };
+
+    ghost tells = { λ seat row. refl };
+
     fn lay(seat: u8, row: Row) -> WaitingRow {
-        let label = match row.line {
-            Line::Waiting(label) => Some(label),
-            _ => None,
-        };
-        WaitingRow { seat, label }
-    }
-}
-
-impl Laid for WritingRow {
-    ghost laid = { writing_row };
-
-    fn lay(seat: u8, row: Row) -> WritingRow {
-        match row.writing {
-            Some(writing) => WritingRow {
-                seat,
-                label: Some(writing.label),
-                map: writing.map,
-            },
-            None => WritingRow {
-                seat,
-                label: None,
-                map: 0,
-            },
+        WaitingRow {
+            seat,
+            label: row.line.label(),
         }
     }
-}
 
-/// The rows of the seats, by rising seat, at the front of an array.
-pub(crate) fn lay_out<R: Laid + Copy>(rows: &[Row], blank: R) -> [R; 20]
-    requires { length rows.now ≤ 20 }
-    ensures { take (length rows.now) result ≡ laid_out R.laid 1 rows.now }
-{
-    let mut out = [blank; 20];
-    for place in 0..rows.len() {
-        out[place] = lay_at(rows, place);
+    fn find<S: LabelSystem>(system: &S, rows: &[WaitingRow]) -> Option<usize> {
+        tail(system, rows)
     }
-    out
 }
 
-/// The row at a place, for the seat one above it.
-fn lay_at<R: Laid>(rows: &[Row], place: usize) -> R
-    requires { (place < length rows.now) × (length rows.now ≤ 20) }
-    ensures { result ≡ R.laid (place + 1) (slice_index_or rows.now place blank) }
-{
-    R::lay(place as u8 + 1, rows[place])
+/// The writing at the head is in force.
+impl Laid for WritingRow {
+    ghost use Rattle.std.specs.Prelude.{refl};
+
+    ghost laid = { writing_row };
+
+    ghost label_of = { standing_label };
+
+    ghost place_in = { head_of };
+
+    ghost tells = { λ seat row. refl };
+
+    fn lay(seat: u8, row: Row) -> WritingRow {
+        WritingRow {
+            seat,
+            label: row.writing.map(|writing| writing.label),
+            map: row.writing.map_or(0, |writing| writing.map),
+        }
+    }
+
+    fn find<S: LabelSystem>(system: &S, rows: &[WritingRow]) -> Option<usize> {
+        head(system, rows)
+    }
 }

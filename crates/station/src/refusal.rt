@@ -1,35 +1,35 @@
 ghost use Rattle.std.specs.Prelude.{◌≡◌};
 ghost use Rattle.station.specs.Numbers.{number};
 
-/// Why a call is refused: the question that is answered no.
+/// Why a call is refused: the question that is answered no, with the number under which it is known.
 #[derive(Clone, Copy, PartialEq, Eq, Debug)]
 pub enum Reason {
     /// The station has seats already.
-    AlreadyOpen,
+    AlreadyOpen = 1,
     /// The number of seats is not from 1 to 20.
-    SeatCount,
+    SeatCount = 2,
     /// The system's order does not reach the number of seats.
-    OrderTooSmall,
+    OrderTooSmall = 3,
     /// The seat is not one of the station's.
-    NoSuchSeat,
+    NoSuchSeat = 4,
     /// The map number is above 65,535.
-    MapTooLarge,
+    MapTooLarge = 5,
     /// The seat is not idle.
-    NotIdle,
+    NotIdle = 6,
     /// The seat does not wait.
-    NotWaiting,
+    NotWaiting = 7,
     /// The seat does not hold the start.
-    NotHolding,
+    NotHolding = 8,
     /// A seat holds the start.
-    StartTaken,
+    StartTaken = 9,
     /// The waiting seats have no tail.
-    NobodyWaits,
+    NobodyWaits = 10,
     /// The seat has no standing writing.
-    NoWriting,
+    NoWriting = 11,
     /// The standing writings have no head.
-    NothingStands,
+    NothingStands = 12,
     /// The system chooses no label.
-    NoLabelLeft,
+    NoLabelLeft = 13,
 }
 
 /// A refused call: why, and about which seat; 0 where the call names none.
@@ -44,21 +44,7 @@ impl Reason {
     pub fn number(&self) -> u8
         ensures { result ≡ number self.now }
     {
-        match self {
-            Reason::AlreadyOpen => 1,
-            Reason::SeatCount => 2,
-            Reason::OrderTooSmall => 3,
-            Reason::NoSuchSeat => 4,
-            Reason::MapTooLarge => 5,
-            Reason::NotIdle => 6,
-            Reason::NotWaiting => 7,
-            Reason::NotHolding => 8,
-            Reason::StartTaken => 9,
-            Reason::NobodyWaits => 10,
-            Reason::NoWriting => 11,
-            Reason::NothingStands => 12,
-            Reason::NoLabelLeft => 13,
-        }
+        *self as u8
     }
 
     /// The refusal for this reason, about a seat.

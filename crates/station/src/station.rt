@@ -1,6 +1,5 @@
-ghost use Rattle.std.specs.Prelude.{◌≡◌, ◌≤◌, length};
-
 use super::row::Row;
+use arrayvec::ArrayVec;
 
 mod found;
 mod line;
@@ -9,12 +8,10 @@ mod register;
 mod serving;
 mod view;
 
-/// A station over the label system that it keeps. Its table is a plain array of rows, so that want of memory is never an
-/// answer.
+/// A station over the label system that it keeps. Its table has a row for each seat, and room for twenty in the value
+/// itself, so that want of memory is never an answer.
 #[derive(Drop)]
 pub struct Station<S> {
     system: S,
-    seats: u8,
-    rows: [Row; 20],
-    ghost few: { (seats ≤ 20) × (length rows ≡ 20) },
+    rows: ArrayVec<Row, 20>,
 }

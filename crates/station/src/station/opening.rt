@@ -1,8 +1,6 @@
-ghost use Rattle.std.specs.Prelude.{◌≡◌};
 ghost use Rattle.station.specs.declared.answer.Answer.TheVariants.{Done};
 ghost use Rattle.station.specs.Questions.{told};
-ghost use Rattle.station.specs.Rules.{Ran};
-ghost use Rattle.station.specs.View.{table};
+ghost use Rattle.station.specs.Serving.{Served};
 
 use super::super::call::Call;
 use super::super::refusal::{Reason, Refusal};
@@ -12,13 +10,12 @@ use labels::LabelSystem;
 impl<S: LabelSystem> Station<S> {
     /// Gives the station its seats, idle and without writing.
     pub fn open(&mut self, seats: u8) -> Result<(), Refusal>
-        ensures ran { Ran (S.LabelSystem.meaning self.old.system) (table self.old) (table self.new) (Call.Open seats) (told (λ _. Done) result) }
-        ensures system { self.new.system ≡ self.old.system }
+        ensures { Served S.meaning self.old self.new (Call.Open seats) (told (λ _. Done) result) }
     {
-        if self.seat_rows().len() != 0 {
+        if !self.rows.is_empty() {
             return Err(Reason::AlreadyOpen.about(0));
         }
-        if seats < 1 || seats > 20 {
+        if !(1..=20).contains(&seats) {
             return Err(Reason::SeatCount.about(0));
         }
         if seats > self.system.order() {

@@ -1,6 +1,7 @@
 ghost use Rattle.std.specs.Prelude.{◌≡◌};
 ghost use Rattle.station.specs.Orderly.{Orderly};
 ghost use Rattle.station.specs.Rules.{Ran};
+ghost use Rattle.station.specs.Serving.{Served};
 ghost use Rattle.station.specs.View.{table};
 
 use super::super::answer::Answer;
@@ -12,32 +13,29 @@ use labels::LabelSystem;
 impl<S: LabelSystem> Station<S> {
     /// Puts any of the calls to the station.
     pub fn serve(&mut self, call: Call) -> Result<Answer, Refusal>
-        ensures ran { Ran (S.LabelSystem.meaning self.old.system) (table self.old) (table self.new) call result }
-        ensures orderly { Orderly (S.LabelSystem.meaning self.old.system) (table self.old) (table self.new) call result }
+        ensures ran { Ran (S.meaning self.old.system) (table self.old) (table self.new) call result }
+        ensures orderly { Orderly (S.meaning self.old.system) (table self.old) (table self.new) call result }
         ensures system { self.new.system ≡ self.old.system }
     {
         self.dispatch(call)
     }
 
+    /// Each call by the function of its name.
     fn dispatch(&mut self, call: Call) -> Result<Answer, Refusal>
-        ensures ran { Ran (S.LabelSystem.meaning self.old.system) (table self.old) (table self.new) call result }
-        ensures system { self.new.system ≡ self.old.system }
+        ensures { Served S.meaning self.old self.new call result }
     {
         match call {
-            Call::Open(seats) => self.open(seats)?,
-            Call::Join(seat) => self.join(seat)?,
-            Call::Leave(seat) => self.leave(seat)?,
-            Call::Start => return Ok(Answer::Started(self.start()?)),
-            Call::Finish(seat) => self.finish(seat)?,
-            Call::Write(seat, map) => self.write(seat, map)?,
-            Call::Strike(seat) => self.strike(seat)?,
-            Call::Read => return Ok(Answer::Reading(self.read()?)),
-            Call::Earlier(first, second) => return Ok(Answer::Verdict(self.earlier(
-                first, second,
-            )?)),
-            Call::Newer(first, second) => return Ok(Answer::Verdict(self.newer(first, second)?)),
-            Call::Label(seat) => return Ok(Answer::Labelled(self.label(seat)?)),
+            Call::Open(seats) => self.open(seats).map(|_| Answer::Done),
+            Call::Join(seat) => self.join(seat).map(|_| Answer::Done),
+            Call::Leave(seat) => self.leave(seat).map(|_| Answer::Done),
+            Call::Start => self.start().map(Answer::Started),
+            Call::Finish(seat) => self.finish(seat).map(|_| Answer::Done),
+            Call::Write(seat, map) => self.write(seat, map).map(|_| Answer::Done),
+            Call::Strike(seat) => self.strike(seat).map(|_| Answer::Done),
+            Call::Read => self.read().map(Answer::Reading),
+            Call::Earlier(first, second) => self.earlier(first, second).map(Answer::Verdict),
+            Call::Newer(first, second) => self.newer(first, second).map(Answer::Verdict),
+            Call::Label(seat) => self.label(seat).map(Answer::Labelled),
         }
-        Ok(Answer::Done)
     }
 }

@@ -1,15 +1,16 @@
-ghost use Rattle.std.specs.Prelude.{◌≡◌, ◌-◌, ◌≤◌, true, [], length, slice_set};
-ghost use Rattle.station.specs.Table.{seated, row_of, with_row, opened_for};
+ghost use Rattle.std.specs.Prelude.{◌≡◌, ◌≤◌, true, false, [], MatchResult};
+ghost use Rattle.station.specs.declared.refusal.Reason.TheVariants.{NoSuchSeat};
+ghost use Rattle.std.specs.Borrow.{sem};
+ghost use Rattle.station.specs.Lending.{LendsRow};
+ghost use Rattle.station.specs.Given.{granted};
+ghost use Rattle.station.specs.Table.{seated, row_of, opened_for};
 ghost use Rattle.station.specs.View.{table};
 
-use super::super::row::{Line, Row};
+use super::super::refusal::{Reason, Refusal};
+use super::super::row::Row;
 use super::Station;
+use arrayvec::ArrayVec;
 use labels::LabelSystem;
-
-const BLANK: Row = Row {
-    line: Line::Idle,
-    writing: None,
-};
 
 impl<S: LabelSystem> Station<S> {
     /// A new station, which has no seats.
@@ -19,40 +20,32 @@ impl<S: LabelSystem> Station<S> {
     {
         Station {
             system,
-            seats: 0,
-            rows: [BLANK; 20],
+            rows: ArrayVec::new(),
         }
     }
 
-    /// Whether `seat` is one of the station's.
-    pub(crate) fn has(&self, seat: u8) -> bool
-        ensures { result ≡ seated (table self.now) seat }
+    /// The row of a seat, where the seat is one of the station's.
+    pub(crate) fn row(&self, seat: u8) -> Result<Row, Refusal>
+        ensures { result ≡ granted (seated (table self.now) seat) (row_of (table self.now) seat) NoSuchSeat seat }
     {
-        1 <= seat && seat <= self.seats
+        (seat as usize)
+            .checked_sub(1)
+            .and_then(|place| self.rows.get(place).copied())
+            .ok_or(Reason::NoSuchSeat.about(seat))
     }
 
-    pub(crate) fn row(&self, seat: u8) -> Row
-        requires { seated (table self.now) seat ≡ true }
-        ensures { result ≡ row_of (table self.now) seat }
+    /// The row of a seat, lent to be changed, where the seat is one of the station's.
+    pub(crate) fn row_mut(&mut self, seat: u8) -> Result<&mut Row, Refusal>
+        ensures* lends { sem 𝓛 (LendsRow S.row self.entry seat result) }
+        ensures value { MatchResult result (λ row. (seated (table self.old) seat ≡ true) × (row.now ≡ row_of (table self.old) seat)) (λ e. (seated (table self.old) seat ≡ false) × (e ≡ record { reason = NoSuchSeat; seat = seat })) }
     {
-        self.rows[seat as usize - 1]
-    }
-
-    /// Puts another row in the place of a seat's.
-    pub(crate) fn change(&mut self, seat: u8, changed: Row)
-        requires { seated (table self.old) seat ≡ true }
-        ensures rows { table self.new ≡ with_row (table self.old) seat changed }
-        ensures system { self.new.system ≡ self.old.system }
-    {
-        put(&mut self.rows, seat, changed);
-    }
-
-    /// The rows of the seats.
-    pub(crate) fn seat_rows(&self) -> &[Row]
-        ensures rows { result.now ≡ table self.now }
-        ensures few { length result.now ≤ 20 }
-    {
-        &self.rows[0..self.seats as usize]
+        if seat == 0 {
+            return Err(Reason::NoSuchSeat.about(seat));
+        }
+        match self.rows.get_mut(seat as usize - 1) {
+            Some(row) => Ok(row),
+            None => Err(Reason::NoSuchSeat.about(seat)),
+        }
     }
 
     /// Gives the station its seats, idle and without writing.
@@ -61,16 +54,7 @@ impl<S: LabelSystem> Station<S> {
         ensures rows { table self.new ≡ opened_for seats }
         ensures system { self.new.system ≡ self.old.system }
     {
-        self.seats = seats;
-        self.rows = [BLANK; 20];
+        self.rows = ArrayVec::from([Row::default(); 20]);
+        self.rows.truncate(seats as usize);
     }
-}
-
-/// Puts another row in the place of a seat's: the one row is lent and changed.
-fn put(rows: &mut [Row; 20], seat: u8, changed: Row)
-    requires { (1 ≤ seat) × (seat ≤ 20) }
-    ensures { rows.new ≡ slice_set rows.old (seat - 1) changed }
-{
-    let row = &mut rows[seat as usize - 1];
-    *row = changed;
 }
