@@ -1,45 +1,49 @@
 ghost use Rattle.std.specs.Prelude.{◌≡◌};
-ghost use Rattle.station.specs.Numbers.{number};
+
+use thiserror::Error;
 
 /// Why a call is refused: the question that is answered no, with the number under which it is known.
-#[derive(Clone, Copy, PartialEq, Eq, Debug)]
+#[derive(Clone, Copy, PartialEq, Eq, Debug, Error)]
 pub enum Reason {
-    /// The station has seats already.
+    #[error("the station has seats already")]
     AlreadyOpen = 1,
-    /// The number of seats is not from 1 to 20.
+    #[error("the number of seats is not from 1 to 20")]
     SeatCount = 2,
-    /// The system's order does not reach the number of seats.
+    #[error("the system's order does not reach the number of seats")]
     OrderTooSmall = 3,
-    /// The seat is not one of the station's.
+    #[error("the seat is not one of the station's")]
     NoSuchSeat = 4,
-    /// The map number is above 65,535.
+    #[error("the map number is above 65,535")]
     MapTooLarge = 5,
-    /// The seat is not idle.
+    #[error("the seat is not idle")]
     NotIdle = 6,
-    /// The seat does not wait.
+    #[error("the seat does not wait")]
     NotWaiting = 7,
-    /// The seat does not hold the start.
+    #[error("the seat does not hold the start")]
     NotHolding = 8,
-    /// A seat holds the start.
+    #[error("a seat holds the start")]
     StartTaken = 9,
-    /// The waiting seats have no tail.
+    #[error("the waiting seats have no tail")]
     NobodyWaits = 10,
-    /// The seat has no standing writing.
+    #[error("the seat has no standing writing")]
     NoWriting = 11,
-    /// The standing writings have no head.
+    #[error("the standing writings have no head")]
     NothingStands = 12,
-    /// The system chooses no label.
+    #[error("the system chooses no label")]
     NoLabelLeft = 13,
 }
 
 /// A refused call: why, and about which seat; 0 where the call names none.
-#[derive(Clone, Copy, PartialEq, Eq, Debug)]
+#[derive(Clone, Copy, PartialEq, Eq, Debug, Error)]
+#[error("{reason} (seat {seat})")]
 pub struct Refusal {
     pub reason: Reason,
     pub seat: u8,
 }
 
 impl Reason {
+    ghost use Rattle.station.specs.Numbers.{number};
+
     /// The number under which the reason is known.
     pub fn number(&self) -> u8
         ensures { result ≡ number self.now }
