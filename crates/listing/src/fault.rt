@@ -1,27 +1,31 @@
 ghost use Rattle.std.specs.Prelude.{◌≡◌};
-ghost use Rattle.listing.specs.Faults.{cause_number};
-ghost use Rattle.listing.specs.declared.fault.Cause.TheVariants.{Word, Station};
 
 use station::Refusal;
+use thiserror::Error;
 use trace::WordFault;
 
 /// Why a word of a trace is not answered: what refused it, whole.
-#[derive(Clone, Copy)]
+#[derive(Clone, Copy, PartialEq, Eq, Debug, Error)]
 pub enum Cause {
-    /// The length of the trace is not a multiple of 4 from 4 to 16,384 bytes.
+    #[error("the length is not a multiple of 4 from 4 to 16,384 bytes")]
     Length,
+    #[error(transparent)]
     Word(WordFault),
+    #[error(transparent)]
     Station(Refusal),
 }
 
 /// A fault of a replay: its cause, and the index of the word that it is about.
-#[derive(Clone, Copy)]
+#[derive(Clone, Copy, PartialEq, Eq, Debug, Error)]
+#[error("word {index}: {cause}")]
 pub struct ReplayFault {
     pub index: u32,
     pub cause: Cause,
 }
 
 impl Cause {
+    ghost use Rattle.listing.specs.Faults.{cause_number};
+
     /// The number under which the cause is known.
     pub fn number(&self) -> u8
         ensures { result ≡ cause_number self.now }
@@ -35,6 +39,8 @@ impl Cause {
 }
 
 impl From<WordFault> for Cause {
+    ghost use Rattle.listing.specs.declared.fault.Cause.TheVariants.{Word};
+
     ghost from_gives = { λ fault cause. cause ≡ Word fault };
 
     fn from(fault: WordFault) -> Cause {
@@ -43,6 +49,8 @@ impl From<WordFault> for Cause {
 }
 
 impl From<Refusal> for Cause {
+    ghost use Rattle.listing.specs.declared.fault.Cause.TheVariants.{Station};
+
     ghost from_gives = { λ refusal cause. cause ≡ Station refusal };
 
     fn from(refusal: Refusal) -> Cause {
