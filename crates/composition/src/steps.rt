@@ -70,7 +70,7 @@ fn leads<S: LabelSystem>(system: &S, parts: &[u32], place: usize) -> bool
 pub(crate) fn can_grow(group: &[u32], order: u8) -> bool
     ensures { result ≡ nat_lt (length group.now) order }
 {
-    group.len() < order as usize
+    group.len() < usize::from(order)
 }
 
 /// The label of two parts, unless one of them is none.

@@ -19,7 +19,7 @@ impl Size {
     pub fn takes_one_more(&self, labels: &[u32]) -> bool
         ensures { result ≡ takes_one_more self.now.order self.now.count labels.now }
     {
-        labels.len() < self.order as usize && self.all_below(labels)
+        labels.len() < usize::from(self.order) && self.all_below(labels)
     }
 
     /// Whether each of `labels` is below `count`.

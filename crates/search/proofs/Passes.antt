@@ -1,7 +1,7 @@
 -- The pass that narrows the search to one candidate, turn by turn.
 use Rattle.std.proofs.Common.{◌≡◌, ℕ, ◌+◌, ◌<◌, ◌≤◌, Bool, true, false, eqb, List, map, length, get_or, Some, None, Option, sym, ap, ◌∙◌, subst, inl, inr, arith, MatchOption}
 use Rattle.std.proofs.lemmas.List.{get_or-map, get_or_past}
-use Rattle.std.proofs.lemmas.Bool.{cases_eq, cases_lt, both_ways, cond_both, or_cases, or_parts, eqb-true, eqb-false}
+use Rattle.std.proofs.lemmas.Bool.{cases_eq, cases_lt, false≢true, both_ways, cond_both, or_cases, or_parts, eqb-true, eqb-false}
 use Rattle.std.proofs.lemmas.Option.{none-some, same_Some}
 use Rattle.search.specs.Search.{LeadsFrom}
 use Rattle.search.specs.Candidates.{next_best, led_by, OnlyCandidate, Narrows}
@@ -84,10 +84,10 @@ module _ (leads : ℕ → ℕ → Bool) (ls : List (Option ℕ)) where
       by (Some c) h = record { here = h.0; only = λ p t. h.2 p (inside p t) t }
 
   -- the check of the candidate, turn by turn
-  pub led_next : (c : Candidate) (i : ℕ) (label : Option ℕ) → get_or ls i None ≡ label → led_by leads c i label ≡ true → ((q b : ℕ) → q < i → (q ≡ c.place → ⊥) → get_or ls q None ≡ Some b → leads c.label b ≡ true) → (q b : ℕ) → q < i + 1 → (q ≡ c.place → ⊥) → get_or ls q None ≡ Some b → leads c.label b ≡ true
+  pub led_next : (c : Candidate) (i : ℕ) (label : Option ℕ) → get_or ls i None ≡ label → true ≡ led_by leads c i label → ((q b : ℕ) → q < i → (q ≡ c.place → ⊥) → get_or ls q None ≡ Some b → leads c.label b ≡ true) → (q b : ℕ) → q < i + 1 → (q ≡ c.place → ⊥) → get_or ls q None ≡ Some b → leads c.label b ≡ true
   led_next c i label here t h q b lt d e =
       elim (cases_eq q i) [
-        | inl s ↦ by label t s (sym here ∙ ap (λ n. get_or ls n None) (sym s) ∙ e)
+        | inl s ↦ by label (sym t) s (sym here ∙ ap (λ n. get_or ls n None) (sym s) ∙ e)
         | inr n ↦ h q b (omega arith) d e
       ]
     where
@@ -104,10 +104,10 @@ module _ (leads : ℕ → ℕ → Bool) (ls : List (Option ℕ)) where
   all_led c n le o h = record { label = c.label; here = o.here; others = λ q b d e. h q b (omega (arith, labelled_inside ls q b e)) d e }
 
   -- nothing leads where the candidate did not lead at some place
-  pub not_led : (c : Candidate) (i : ℕ) (label : Option ℕ) → OnlyCandidate leads ls c → get_or ls i None ≡ label → led_by leads c i label ≡ false → (p : ℕ) → LeadsFrom leads ls p → ⊥
-  not_led c i None o here f p top = let z : ◌≡◌ {A = ℕ} 0 1 = cc in omega arith
+  pub not_led : (c : Candidate) (i : ℕ) (label : Option ℕ) → OnlyCandidate leads ls c → get_or ls i None ≡ label → false ≡ led_by leads c i label → (p : ℕ) → LeadsFrom leads ls p → ⊥
+  not_led c i None o here f p top = false≢true f
   not_led c i (Some b) o here f p top =
       let at : p ≡ c.place = o.only p top in
       let same : top.label ≡ c.label = same_Some top.label c.label (sym top.here ∙ ap (λ n. get_or ls n None) at ∙ o.here) in
-      let fails = or_parts (eqb i c.place) (leads c.label b) f in
+      let fails = or_parts (eqb i c.place) (leads c.label b) (sym f) in
       both_ways (leads c.label b) fails.1 (subst (λ z. leads z b ≡ true) same (top.others i b (λ s. eqb-false i c.place fails.0 (s ∙ at)) here))
