@@ -33,6 +33,7 @@ pub enum Reason {
 }
 
 /// A refused call: why, and about which seat; 0 where the call names none.
+// A number and no Option, by a rule of the project: each refusal is of a reason and a seat's number (docs/STATION.md).
 #[derive(Clone, Copy, PartialEq, Eq, Debug)]
 pub struct Refusal {
     pub reason: Reason,
