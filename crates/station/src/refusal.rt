@@ -34,6 +34,7 @@ pub enum Reason {
 }
 
 /// A refused call: why, and about which seat; 0 where the call names none.
+// A seat's number and no Option, by a rule of the project: 0 is told where no seat is named.
 #[derive(Clone, Copy, PartialEq, Eq, Debug, Error)]
 #[error("{reason} (seat {seat})")]
 pub struct Refusal {

@@ -6,7 +6,7 @@ ghost use Rattle.station.specs.Given.{given, granted};
 use super::refusal::{Reason, Refusal};
 
 /// What a seat does in the start line.
-#[derive(Clone, Copy, Default, PartialEq, Eq, Debug)]
+#[derive(Clone, Copy, Default)]
 pub enum Line {
     #[default]
     Idle,
@@ -17,14 +17,14 @@ pub enum Line {
 }
 
 /// A standing writing.
-#[derive(Clone, Copy, PartialEq, Eq, Debug)]
+#[derive(Clone, Copy)]
 pub struct Writing {
     pub label: u32,
     pub map: u16,
 }
 
 /// The row of a seat. By default the seat is idle and has no writing.
-#[derive(Clone, Copy, Default, PartialEq, Eq, Debug)]
+#[derive(Clone, Copy, Default)]
 pub struct Row {
     pub line: Line,
     pub writing: Option<Writing>,

@@ -44,6 +44,7 @@ impl<S: LabelSystem> Station<S> {
         }
         let first = self.line_tail().ok_or(Reason::NobodyWaits.about(0))?;
         let map = self.register_head().map(|writing| writing.map);
+        // Never refused: a seat that waits is one of the station's.
         self.row_mut(first.seat)?.line = Line::Holding;
         Ok(Started {
             seat: first.seat,

@@ -42,6 +42,7 @@ impl<S: LabelSystem> Station<S> {
         if seat == 0 {
             return Err(Reason::NoSuchSeat.about(seat));
         }
+        // Not by `ok_or`, as in `row`: the proof doesn't follow a row that is lent through it.
         match self.rows.get_mut(seat as usize - 1) {
             Some(row) => Ok(row),
             None => Err(Reason::NoSuchSeat.about(seat)),
