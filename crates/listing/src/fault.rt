@@ -30,6 +30,7 @@ impl Cause {
     pub fn number(&self) -> u8
         ensures { result ≡ cause_number self.now }
     {
+        // Two causes carry a value, which has the number, so this is no discriminant.
         match self {
             Cause::Length => 16,
             Cause::Word(fault) => fault.number(),

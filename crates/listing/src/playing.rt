@@ -26,6 +26,7 @@ pub(crate) fn play<S: LabelSystem + Drop>(
     play_on(heap, &mut station, words)
 }
 
+#[tactic(auto, using(crate::proofs::Turns::few_words))]
 fn play_on<S: LabelSystem>(
     heap: Global,
     station: &mut Station<S>,
@@ -58,6 +59,7 @@ fn list_word<S: LabelSystem>(
     let outcome = step(station, index, word);
     let entry = entry_for(word, outcome);
     put_line(out, Line { index, entry })?;
+    // A bool, since the loop would only turn a `ControlFlow` back into one.
     Ok(!ends(outcome))
 }
 

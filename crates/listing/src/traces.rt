@@ -33,6 +33,7 @@ fn opened(trace: &[u8]) -> Result<(Pile, Words<'_>), Cause>
     ensures { MatchResult result (λ p. listing_of trace.now ≡ over_pile (pile_number p.0) (words_in p.1.bytes.now)) (λ cause. listing_of trace.now ≡ fault_line 0 (cause_number cause)) }
 {
     let mut words = Words::try_from(trace)?;
+    // A trace of a fit length has a first word.
     let head = words.next().ok_or(Cause::Length)?;
     let pile = read_head(head)?;
     Ok((pile, words))

@@ -16,3 +16,11 @@ pub(crate) fn word(kind: u32, seat: u8, low: u32) -> u32
 {
     (kind << 28) + (u32::from(seat) << 20) + low
 }
+
+/// The word of a kind and two seats.
+pub(crate) fn seats_word(kind: u32, first: u8, second: u8) -> u32
+    requires { kind < 16 }
+    ensures { result ≡ kind * 2 ^ 28 + first * 2 ^ 20 + second * 2 ^ 12 }
+{
+    word(kind, first, u32::from(second) << 12)
+}

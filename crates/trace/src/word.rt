@@ -3,7 +3,7 @@ ghost use Rattle.trace.specs.Words.{word_of, call_of, named_by, map_in};
 ghost use Rattle.trace.specs.Faults.{or_fault, written};
 
 use super::fault::WordFault;
-use super::fields::{low, word};
+use super::fields::{low, seats_word, word};
 use station::Call;
 
 /// The call that a word holds.
@@ -66,8 +66,8 @@ fn packed(call: Call) -> u32
         Call::Write(seat, map) => word(6, seat, map),
         Call::Strike(seat) => word(7, seat, 0),
         Call::Read => word(8, 0, 0),
-        Call::Earlier(first, second) => word(9, first, u32::from(second) << 12),
-        Call::Newer(first, second) => word(10, first, u32::from(second) << 12),
+        Call::Earlier(first, second) => seats_word(9, first, second),
+        Call::Newer(first, second) => seats_word(10, first, second),
         Call::Label(seat) => word(11, seat, 0),
     }
 }

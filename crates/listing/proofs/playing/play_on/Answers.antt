@@ -1,11 +1,8 @@
 -- Each turn lists one word more.
 use Rattle.std.proofs.Common.{length, vec_items, ap, arith, sym, ◌∙◌}
 use Rattle.station.specs.View.{table}
-use Rattle.listing.proofs.Turns.{few_words, turned}
+use Rattle.listing.proofs.Turns.{turned}
 use Rattle.listing.proofs.playing.play_on.Goals as goal
-
-pub loop-index-init : goal.loop-index-init
-loop-index-init g c = grind (arith, few_words c.args.words.bytes.now)
 
 pub loop-index-preserved : goal.loop-index-preserved
 loop-index-preserved g c =

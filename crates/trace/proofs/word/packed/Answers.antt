@@ -6,7 +6,7 @@ use Rattle.trace.proofs.word.packed.Goals as goal
 
 pub returns-in-Earlier-clause-back : goal.returns-in-Earlier-clause-back
 returns-in-Earlier-clause-back c =
-    let w = c.word-in-Earlier.result in
+    let w = c.seats_word.result in
     let kind : kind_of w ≡ 9 = omega arith in
     let first : seat_of w ≡ c.in-Earlier.first = omega arith in
     let second : second_of w ≡ c.in-Earlier.second = omega arith in
@@ -14,7 +14,7 @@ returns-in-Earlier-clause-back c =
 
 pub returns-in-Newer-clause-back : goal.returns-in-Newer-clause-back
 returns-in-Newer-clause-back c =
-    let w = c.word-in-Newer.result in
+    let w = c.seats_word-in-Newer.result in
     let kind : kind_of w ≡ 10 = omega arith in
     let first : seat_of w ≡ c.in-Newer.first = omega arith in
     let second : second_of w ≡ c.in-Newer.second = omega arith in
