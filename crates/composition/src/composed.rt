@@ -63,6 +63,7 @@ impl<O: LabelSystem, I: LabelSystem> Over<O, I> {
                 count: count as u32,
             }
         } else {
+            // No `Option`: by the rules such a composition has order 0 and count 0.
             Size { order: 0, count: 0 }
         }
     }

@@ -18,7 +18,8 @@ pub(crate) trait Answered: Copy {
     /// The most bytes that its text has.
     ghost most: { ℕ };
 
-    /// Takes it out of an answer, unless that is of another kind.
+    /// Takes it out of an answer, unless that is of another kind. Each does so by a `match`, since no function takes a
+    /// variant's name.
     fn part_of(answer: Answer) -> Option<Self>
         ensures { part_in answer ≡ or_misplaced result };
 

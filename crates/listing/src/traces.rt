@@ -43,6 +43,7 @@ fn opened(trace: &[u8]) -> Result<(Pile, Words<'_>), Cause>
 fn list_over(heap: Global, pile: Pile, words: Words) -> Result<Vec<u8>, AllocError>
     ensures { IfOk result (λ bytes. bytes.items ≡ over_pile (pile_number pile) (words_in words.entry.bytes.now)) }
 {
+    // A `match` and no `dyn`: each pile is a type of its own, and a station keeps its system by value.
     match pile {
         Pile::One => play(heap, Pile1::new(), words),
         Pile::Two => play(heap, Pile2::new(), words),

@@ -9,7 +9,7 @@ use piles::{Pile3, Pile4};
 use station::{Answer, Call, Refusal};
 use std::alloc::{AllocError, Global};
 
-/// The replies of two stations to the same calls.
+/// The replies of two stations to the same calls: two lists and no list of pairs, since each is a life by itself.
 #[derive(Drop)]
 pub struct Both {
     pub first: Vec<Result<Answer, Refusal>>,

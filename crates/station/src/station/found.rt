@@ -88,5 +88,5 @@ fn leave_out(rows: &mut ArrayVec<WritingRow, 20>, seat: u8)
     requires { (1 ≤ seat) × (seat ≤ array_vec_len rows.old) }
     ensures { rows.new.items ≡ slice_set rows.old.items (seat - 1) (writing_row 0 blank) }
 {
-    rows[seat as usize - 1] = WritingRow::default();
+    rows[usize::from(seat) - 1] = WritingRow::default();
 }

@@ -29,6 +29,7 @@ impl<S: LabelSystem> Station<S> {
     pub fn leave(&mut self, seat: u8) -> Result<(), Refusal>
         ensures { Served S.meaning self.old self.new (Call.Leave seat) (told (λ _. Done) result) }
     {
+        // As `finish` and `strike`: one function for the three would take what is asked, why, and what is changed.
         let row = self.row_mut(seat)?;
         row.waiting(seat)?;
         row.line = Line::Idle;
@@ -66,6 +67,7 @@ impl<S: LabelSystem> Station<S> {
     pub fn earlier(&self, first: u8, second: u8) -> Result<bool, Refusal>
         ensures { told (λ b. Verdict b) result ≡ reply (S.meaning self.now.system) (table self.now) (Call.Earlier first second) }
     {
+        // As `newer`: one function for both would hide which label has to beat which.
         let (one, other) = (self.row(first)?, self.row(second)?);
         let (older, younger) = (one.waiting(first)?, other.waiting(second)?);
         Ok(self.system.beats(younger, older))

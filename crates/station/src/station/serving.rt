@@ -20,7 +20,7 @@ impl<S: LabelSystem> Station<S> {
         self.dispatch(call)
     }
 
-    /// Each call by the function of its name.
+    /// Each call by the function of its name: a `match` and no table of functions, since each takes values of its own.
     fn dispatch(&mut self, call: Call) -> Result<Answer, Refusal>
         ensures { Served S.meaning self.old self.new call result }
     {

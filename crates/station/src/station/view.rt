@@ -28,7 +28,7 @@ impl<S: LabelSystem> Station<S> {
     pub(crate) fn row(&self, seat: u8) -> Result<Row, Refusal>
         ensures { result ≡ granted (seated (table self.now) seat) (row_of (table self.now) seat) NoSuchSeat seat }
     {
-        (seat as usize)
+        usize::from(seat)
             .checked_sub(1)
             .and_then(|place| self.rows.get(place).copied())
             .ok_or(Reason::NoSuchSeat.about(seat))
@@ -43,7 +43,7 @@ impl<S: LabelSystem> Station<S> {
             return Err(Reason::NoSuchSeat.about(seat));
         }
         // Not by `ok_or`, as in `row`: the proof doesn't follow a row that is lent through it.
-        match self.rows.get_mut(seat as usize - 1) {
+        match self.rows.get_mut(usize::from(seat) - 1) {
             Some(row) => Ok(row),
             None => Err(Reason::NoSuchSeat.about(seat)),
         }
@@ -56,6 +56,6 @@ impl<S: LabelSystem> Station<S> {
         ensures system { self.new.system ≡ self.old.system }
     {
         self.rows = ArrayVec::from([Row::default(); 20]);
-        self.rows.truncate(seats as usize);
+        self.rows.truncate(usize::from(seats));
     }
 }
