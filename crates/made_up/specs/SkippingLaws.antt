@@ -4,7 +4,7 @@ use Rattle.std.proofs.Common.{sym, ◌∙◌, inl, inr, arith, lit<, lit≤}
 use Rattle.std.proofs.lemmas.Bool.{cases_Bool, cond-true, cond-false, ltb-true}
 use Rattle.labels.specs.System.{Laws}
 use Rattle.labels.specs.Plain.{bounded}
-use Rattle.std.proofs.lemmas.Option.{none-some}
+use Rattle.std.proofs.lemmas.Option.{none-some, cond_some}
 use Rattle.labels.proofs.Counter.{over_from}
 use Rattle.labels.proofs.Chains.{Given, lawful_plain}
 use Rattle.made_up.specs.Skipping.{past, skipping_choice, skipping}
@@ -16,9 +16,8 @@ kept b o x e = elim (cases_Bool b) [ inl t ↦ (t, sym (cond-true b o None t) �
 above : (a b x : ℕ) → past a b ≡ Some x → (x < 100) × (a < x) × (b < x)
 above a b x e =
     let n : ℕ = max a b + 1 + a % 2 in
-    let p = kept (nat_lt n 100) (Some n) x e in
-    let s : n ≡ x = cc p.1 in
-    (omega (arith, ltb-true n 100 p.0), omega arith, omega arith)
+    let p = cond_some (nat_lt n 100) n x e in
+    (omega (arith, ltb-true n 100 p.0, p.1), omega (arith, p.1), omega (arith, p.1))
 
 chosen : (l : List ℕ) (x : ℕ) → skipping_choice l ≡ Some x → Given 3 100 (bounded 100 (λ a b. ltb b a)) l x
 chosen [] x e = let z : ◌≡◌ {A = ℕ} 0 x = cc in record { room = lit< tt; label = omega arith; beats_all = tt }
