@@ -80,7 +80,7 @@ impl<O: LabelSystem, I: LabelSystem> Over<O, I> {
             return joined(width, self.outer.choose(&[]), self.inner.choose(&[]));
         }
         let parts = outer_parts(labels, width);
-        // By `let .. else`, as the other steps: the way out of each stands by itself.
+        // By `let .. else`, by a rule of the project for the steps of a choice.
         let Some(m) = leader(&self.outer, parts.as_slice()) else {
             return None;
         };

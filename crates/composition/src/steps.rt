@@ -44,6 +44,7 @@ pub(crate) fn leader<S: LabelSystem>(system: &S, parts: &[u32]) -> Option<u32>
     requires { Distinct parts.now }
     ensures { result ≡ leader (S.meaning system.now).beats parts.now }
 {
+    // By `for` with its index, and not by `find`: a rule of the project for the steps of a composition.
     for (place, part) in parts.iter().enumerate() {
         if leads(system, parts, place) {
             return Some(*part);
@@ -57,7 +58,7 @@ fn leads<S: LabelSystem>(system: &S, parts: &[u32], place: usize) -> bool
     requires { place < length parts.now }
     ensures { (result ≡ true) ↔ LeadsAt (S.meaning system.now).beats parts.now place }
 {
-    // By `for`, and not by `all`: the walk for the leader and this one go over the same places.
+    // By `for`, and not by `all`: the same rule.
     for (k, part) in parts.iter().enumerate() {
         if k != place && !system.beats(parts[place], *part) {
             return false;
@@ -78,7 +79,7 @@ pub(crate) fn joined(width: u32, outer: Option<u32>, inner: Option<u32>) -> Opti
     requires { IfSome (joined width outer inner) (λ x. x < 2 ^ 28) }
     ensures { result ≡ joined width outer inner }
 {
-    // By `let .. else`, a line of its own for each choice that may be none.
+    // By `let .. else`, by a rule of the project for the steps of a choice.
     let Some(a) = outer else {
         return None;
     };

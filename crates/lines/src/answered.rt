@@ -1,6 +1,6 @@
 ghost use Rattle.std.specs.Prelude.{◌≡◌, ℕ, ◌+◌, ◌≤◌, List, ◌++◌, length, codes, decimal, Result};
 ghost use Rattle.station.specs.declared.answer.Answer.{Answer};
-ghost use Rattle.lines.specs.Drafts.{HasRoom};
+ghost use Rattle.lines.specs.Drafts.{HasRoom, Puts};
 ghost use Rattle.lines.specs.Lines.{started_text, reading_text, verdict_text};
 ghost use Rattle.lines.specs.Replies.{done_in, started_in, reading_in, verdict_in, label_in, or_misplaced};
 
@@ -18,16 +18,15 @@ pub(crate) trait Answered: Copy {
     /// The most bytes that its text has.
     ghost most: { ℕ };
 
-    /// Takes it out of an answer, unless that is of another kind. Each does so by a `match`, since no function takes a
-    /// variant's name.
+    /// Takes it out of an answer, unless that is of another kind.
+    // Each by a `match` of its own, since no function can be told which variant to take.
     fn part_of(answer: Answer) -> Option<Self>
         ensures { part_in answer ≡ or_misplaced result };
 
     /// Puts its text at the end of a line.
     fn put(self, draft: &mut Draft)
         requires { HasRoom draft.old most }
-        ensures after { draft.new.bytes ≡ draft.old.bytes ++ text self }
-        ensures short { length (text self) ≤ most };
+        ensures { Puts draft.old draft.new (text self) most };
 }
 
 impl Answered for () {

@@ -1,5 +1,5 @@
 ghost use Rattle.std.specs.Prelude.{◌≡◌, ◌≤◌, ◌++◌, length};
-ghost use Rattle.lines.specs.Drafts.{HasRoom};
+ghost use Rattle.lines.specs.Drafts.{HasRoom, Puts};
 
 use arrayvec::ArrayString;
 use itoa::{Buffer, Integer};
@@ -10,8 +10,7 @@ pub(crate) type Draft = ArrayString<32>;
 /// Puts a number in base ten.
 pub(crate) fn put_number<I: Integer>(draft: &mut Draft, number: I)
     requires { HasRoom draft.old I.MAX_STR_LEN }
-    ensures after { draft.new.bytes ≡ draft.old.bytes ++ I.text number }
-    ensures short { length (I.text number) ≤ I.MAX_STR_LEN }
+    ensures { Puts draft.old draft.new (I.text number) I.MAX_STR_LEN }
 {
     draft.push_str(Buffer::new().format(number));
 }

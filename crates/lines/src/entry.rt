@@ -1,7 +1,7 @@
 use station::{Reading, Started};
 
-/// What a station replied to a call, by the call's name; a refused call has its refusal's number, which stays a number,
-/// since a line tells any number of 8 bits.
+/// What a station replied to a call, by the call's name; a refused call has its refusal's number.
+// A number and no `Reason`: by a rule of the project a line tells any number of 8 bits.
 #[derive(Clone, Copy)]
 pub enum Entry {
     Open(Result<(), u8>),

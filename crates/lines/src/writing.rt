@@ -1,5 +1,5 @@
 ghost use Rattle.std.specs.Prelude.{◌≡◌, ◌+◌, ◌≤◌, max, ◌++◌, length, codes};
-ghost use Rattle.lines.specs.Drafts.{HasRoom};
+ghost use Rattle.lines.specs.Drafts.{HasRoom, Puts};
 ghost use Rattle.lines.specs.Lines.{name_of, result_of, or_refused, line_bytes};
 ghost use Rattle.lines.specs.Written.{Written};
 
@@ -14,6 +14,7 @@ pub fn write_line(line: Line, buffer: &mut [u8]) -> Result<u8, LineFault>
     ensures written { Written line buffer.old buffer.new result }
     ensures short { length (line_bytes line) ≤ 31 }
 {
+    // No `Display`: a `write!` promises its text only where it succeeds, and that it does cannot be shown here.
     // Drafted apart, so that no part of a line is ever seen in the buffer.
     let draft = drafted(line);
     if buffer.len() < 32 {
@@ -38,8 +39,7 @@ fn drafted(line: Line) -> Draft
 
 fn put_entry(draft: &mut Draft, entry: Entry)
     requires { HasRoom draft.old 19 }
-    ensures after { draft.new.bytes ≡ draft.old.bytes ++ (name_of entry ++ (codes " " ++ result_of entry)) }
-    ensures short { length (name_of entry ++ (codes " " ++ result_of entry)) ≤ 19 }
+    ensures { Puts draft.old draft.new (name_of entry ++ (codes " " ++ result_of entry)) 19 }
 {
     match entry {
         Entry::Open(reply) => put_reply(draft, "open", reply),
@@ -63,8 +63,7 @@ fn put_entry(draft: &mut Draft, entry: Entry)
 /// Puts a call's name, and what the call answered or its refusal's number.
 fn put_reply<T: Answered>(draft: &mut Draft, name: &str, reply: Result<T, u8>)
     requires { HasRoom draft.old (length name.now + 1 + max 11 T.most) }
-    ensures after { draft.new.bytes ≡ draft.old.bytes ++ (name.now ++ (codes " " ++ or_refused T.text reply)) }
-    ensures short { length (or_refused T.text reply) ≤ max 11 T.most }
+    ensures { Puts draft.old draft.new (name.now ++ (codes " " ++ or_refused T.text reply)) (length name.now + 1 + max 11 T.most) }
 {
     draft.push_str(name);
     draft.push_str(" ");

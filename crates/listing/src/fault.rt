@@ -39,6 +39,7 @@ impl Cause {
     }
 }
 
+// By hand, as the next: a derived `From` has no contract, and a fault has to carry what refused it whole.
 impl From<WordFault> for Cause {
     ghost use Rattle.listing.specs.declared.fault.Cause.TheVariants.{Word};
 

@@ -96,7 +96,7 @@ fn ends(outcome: Result<Answer, ReplayFault>) -> bool
 pub(crate) fn put_line(out: &mut Vec<u8>, line: Line) -> Result<(), AllocError>
     ensures { OnOk result (out.new.items ≡ out.old.items ++ line_bytes line) }
 {
-    // An array, since a line is written into whatever buffer its caller has.
+    // An array and the length that is answered, since by the rules a line is written into its caller's buffer.
     let mut buffer = [0; 32];
     let size = write_line(line, &mut buffer).unwrap();
     out.extend_from_slice(&buffer[..usize::from(size)])

@@ -5,6 +5,7 @@ ghost use Rattle.std.proofs.Common.{rules};
 
 use super::pile::{Pile, Shipped};
 use composition::Over;
+use labels::Size;
 use plain::{Counter, Heptad, Triangle};
 
 type TwoTriangles = Over<Triangle, Triangle>;
@@ -91,10 +92,7 @@ impl Shipped for Counter {
     ghost known = { Prim.search rules };
 
     fn shipped() -> Self {
-        match Counter::new(20, 0x1000_0000) {
-            Ok(counter) => counter,
-            Err(_) => unreachable(),
-        }
+        Counter::new(20, Size::MAX_COUNT).unwrap()
     }
 }
 

@@ -58,7 +58,7 @@ fn least_winner(labels: &[u32]) -> Option<u32>
     if !SIZE.takes_one_more(labels) {
         return None;
     }
-    // Loops and no `find` over `all`: by a rule of the project a label leads on to the next candidate.
+    // Two loops and no `find` over `all`: by a rule of the project the inner one is left to the next by its loop label.
     'candidate: for x in 0..SIZE.count {
         for y in labels {
             if !ahead_by_square(x, *y) {

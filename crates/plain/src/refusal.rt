@@ -18,6 +18,7 @@ impl CounterRefusal {
     pub fn number(&self) -> u8
         ensures { result ≡ number self.now }
     {
+        // A line in each such enum, since a cast names the type that it is from.
         *self as u8
     }
 }

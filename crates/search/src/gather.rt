@@ -10,7 +10,7 @@ pub fn labels_in<E: Entry>(entries: &[E]) -> ShortList
     ensures { result ≡ take 20 (labels_in (map E.labelled entries.now)) }
 {
     let mut found = ShortList::new();
-    // Tried by `filter_map`: the check refuses its own statement of a loop over one, where the entry is a type parameter.
+    // By `for`: a loop over `filter_map` was tried, and is refused where the entry is a type parameter.
     for entry in entries {
         if let Some(label) = entry.label() {
             found.push(label);

@@ -17,9 +17,9 @@ pub(crate) trait Leads {
 pub(crate) struct NewerLeads<'a, S>(pub &'a S);
 
 impl<'a, S: LabelSystem> Leads for NewerLeads<'a, S> {
-    ghost relation = { λ s. (S.LabelSystem.meaning s.0.now).beats };
+    ghost relation = { λ s. (S.meaning s.0.now).beats };
 
-    ghost one_way = { λ s a b. (S.LabelSystem.shows s.0.now).one_way a b };
+    ghost one_way = { λ s a b. (S.shows s.0.now).one_way a b };
 
     fn leads(&self, a: u32, b: u32) -> bool {
         self.0.beats(a, b)
@@ -31,9 +31,9 @@ impl<'a, S: LabelSystem> Leads for NewerLeads<'a, S> {
 pub(crate) struct OlderLeads<'a, S>(pub &'a S);
 
 impl<'a, S: LabelSystem> Leads for OlderLeads<'a, S> {
-    ghost relation = { λ s a b. (S.LabelSystem.meaning s.0.now).beats b a };
+    ghost relation = { λ s a b. (S.meaning s.0.now).beats b a };
 
-    ghost one_way = { λ s a b. (S.LabelSystem.shows s.0.now).one_way b a };
+    ghost one_way = { λ s a b. (S.shows s.0.now).one_way b a };
 
     fn leads(&self, a: u32, b: u32) -> bool {
         self.0.beats(b, a)

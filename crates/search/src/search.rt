@@ -31,6 +31,7 @@ pub fn tail<S: LabelSystem, E: Entry>(system: &S, entries: &[E]) -> Option<usize
     leading(&OlderLeads(system), entries)
 }
 
+// `by` and `entries` side by side, since a struct of both would only be taken apart again.
 /// Two passes, so that `leads` is called at most twice for each labelled place: a place that leads all others is left by
 /// the first pass as its candidate, and the second checks the candidate.
 fn leading<L: Leads, E: Entry>(by: &L, entries: &[E]) -> Option<usize>
@@ -44,6 +45,7 @@ fn leading<L: Leads, E: Entry>(by: &L, entries: &[E]) -> Option<usize>
 fn narrow<L: Leads, E: Entry>(by: &L, entries: &[E]) -> Option<Candidate>
     ensures { Narrows (L.relation by.now) (map E.labelled entries.now) result }
 {
+    // By `for` with its index, and not by `fold`: a rule of the project for the passes of a search.
     let mut best = None;
     for (place, entry) in entries.iter().enumerate() {
         best = next_best(by, place, entry.label(), best);
@@ -74,7 +76,7 @@ fn leads_others<L: Leads, E: Entry>(by: &L, entries: &[E], found: Candidate) -> 
     requires { OnlyCandidate (L.relation by.now) (map E.labelled entries.now) found }
     ensures { MatchBool result (LeadsFrom (L.relation by.now) (map E.labelled entries.now) found.place) ((p : ℕ) → LeadsFrom (L.relation by.now) (map E.labelled entries.now) p → ⊥) }
 {
-    // By `for`, and not by `all`: both passes walk the places with their entries.
+    // By `for`, and not by `all`: the same rule.
     for (other, entry) in entries.iter().enumerate() {
         if !is_led(by, found, other, entry.label()) {
             return false;

@@ -1,6 +1,7 @@
 use super::entry::Entry;
 
-// No generic row for this one and the waiting row: `Row<()>` and `Row<u16>` would not say what they are.
+// No generic row with the waiting row, which would carry an empty field. The map stands beside the label, which by a rule
+// of the project is an `Option` of the entry.
 /// A seat with its standing writing, a map number and its label, or without one.
 #[derive(Clone, Copy, Default, PartialEq, Eq, Debug)]
 pub struct WritingRow {

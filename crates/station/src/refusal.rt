@@ -49,6 +49,7 @@ impl Reason {
     pub fn number(&self) -> u8
         ensures { result ≡ number self.now }
     {
+        // A line in each such enum, since a cast names the type that it is from.
         *self as u8
     }
 

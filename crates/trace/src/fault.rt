@@ -20,6 +20,7 @@ impl WordFault {
     pub fn number(&self) -> u8
         ensures { result ≡ fault_number self.now }
     {
+        // A line in each such enum, since a cast names the type that it is from.
         *self as u8
     }
 }

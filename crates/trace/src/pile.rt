@@ -19,6 +19,7 @@ impl Pile {
     pub fn number(&self) -> u8
         ensures { result ≡ pile_number self.now }
     {
+        // A line in each such enum, since a cast names the type that it is from.
         *self as u8
     }
 }

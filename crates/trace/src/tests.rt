@@ -3,25 +3,8 @@ use station::Call;
 use std::process::Abort;
 use std::test::Fail;
 
-/// The kind of a call and its numbers, 0 where it has none.
-fn parts(call: Call) -> (u8, u8, u32) {
-    match call {
-        Call::Open(seats) => (1, seats, 0),
-        Call::Join(seat) => (2, seat, 0),
-        Call::Leave(seat) => (3, seat, 0),
-        Call::Start => (4, 0, 0),
-        Call::Finish(seat) => (5, seat, 0),
-        Call::Write(seat, map) => (6, seat, map),
-        Call::Strike(seat) => (7, seat, 0),
-        Call::Read => (8, 0, 0),
-        Call::Earlier(first, second) => (9, first, u32::from(second)),
-        Call::Newer(first, second) => (10, first, u32::from(second)),
-        Call::Label(seat) => (11, seat, 0),
-    }
-}
-
 fn reads(rt: &impl Abort, word: u32, call: Call) -> Result<(), Fail> {
-    assert_eq!(rt; parts(read_word(word)?), parts(call));
+    assert_eq!(rt; read_word(word)?, call);
     Ok(())
 }
 

@@ -29,7 +29,7 @@ impl<S: LabelSystem> Station<S> {
     pub fn leave(&mut self, seat: u8) -> Result<(), Refusal>
         ensures { Served S.meaning self.old self.new (Call.Leave seat) (told (λ _. Done) result) }
     {
-        // As `finish` and `strike`: one function for the three would take what is asked, why, and what is changed.
+        // As `finish` and `strike`: one function for the three would take two closures, and be no shorter.
         let row = self.row_mut(seat)?;
         row.waiting(seat)?;
         row.line = Line::Idle;

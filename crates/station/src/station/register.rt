@@ -12,6 +12,7 @@ use super::super::row::Writing;
 use super::Station;
 use labels::LabelSystem;
 
+// What a call answers stands with each call, since each has an answer of its own kind.
 impl<S: LabelSystem> Station<S> {
     /// A seat's writing is replaced by a map number, with the label that the system chooses beside the other writings.
     pub fn write(&mut self, seat: u8, map: u32) -> Result<(), Refusal>

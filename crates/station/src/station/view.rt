@@ -42,7 +42,7 @@ impl<S: LabelSystem> Station<S> {
         if seat == 0 {
             return Err(Reason::NoSuchSeat.about(seat));
         }
-        // Not by `ok_or`, as in `row`: the proof doesn't follow a row that is lent through it.
+        // Not by `checked_sub` and `ok_or`, as `row`: tried, and the proof doesn't follow a row lent through them.
         match self.rows.get_mut(usize::from(seat) - 1) {
             Some(row) => Ok(row),
             None => Err(Reason::NoSuchSeat.about(seat)),

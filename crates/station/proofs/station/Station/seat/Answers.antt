@@ -9,4 +9,5 @@ pub returns-clause-rows : goal.returns-clause-rows
 returns-clause-rows g c =
     let default : c.default.result ≡ blank = search rules in
     let twenty : c.from-self.result.items ≡ replicate 20 blank = subst (λ (row : Row). c.from-self.result.items ≡ replicate 20 row) default c.from-self.ensures.0 in
-    c.truncate.ensures.items ∙ ap (take c.args.seats) twenty ∙ take-replicate c.args.seats 20 blank c.requires
+    let wide : c.from.result ≡ c.args.seats = search rules in
+    c.truncate.ensures.items ∙ ap (λ n. take n c.from-self.result.items) wide ∙ ap (take c.args.seats) twenty ∙ take-replicate c.args.seats 20 blank c.requires
