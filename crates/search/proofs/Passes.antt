@@ -80,12 +80,12 @@ module _ {X : Type 0} (leads : ℕ → ℕ → Bool) (f : X → Option ℕ) (xs 
   abbrev ls : List (Option ℕ)
   ls = map f xs
 
-  here : get_or ls i None ≡ label
-  here = get_or-map f xs i x None within ∙ ap f (sym is) ∙ sym told
+  told_here : get_or ls i None ≡ label
+  told_here = get_or-map f xs i x None within ∙ ap f (sym is) ∙ sym told
 
   -- the next candidate
   pub next_turn : ((a b : ℕ) → leads a b ≡ true → leads b a ≡ true → ⊥) → (best next : Option Candidate) → next ≡ next_best leads i label best → SoFar leads ls i best → SoFar leads ls (i + 1) next
-  next_turn one_way best next is h = subst (SoFar leads ls (i + 1)) (sym is) (by label best here h)
+  next_turn one_way best next is h = subst (SoFar leads ls (i + 1)) (sym is) (by label best told_here h)
     where
       by : (label : Option ℕ) (best : Option Candidate) → get_or ls i None ≡ label → SoFar leads ls i best → SoFar leads ls (i + 1) (next_best leads i label best)
       by None best here h = unlabelled leads ls i best here h
@@ -96,7 +96,7 @@ module _ {X : Type 0} (leads : ℕ → ℕ → Bool) (f : X → Option ℕ) (xs 
   pub led_next : (c : Candidate) → true ≡ led_by leads c i label → ((q b : ℕ) → q < i → (q ≡ c.place → ⊥) → get_or ls q None ≡ Some b → leads c.label b ≡ true) → (q b : ℕ) → q < i + 1 → (q ≡ c.place → ⊥) → get_or ls q None ≡ Some b → leads c.label b ≡ true
   led_next c t h q b lt d e =
       elim (cases_eq q i) [
-        | inl s ↦ by label (sym t) s (sym here ∙ ap (λ n. get_or ls n None) (sym s) ∙ e)
+        | inl s ↦ by label (sym t) s (sym told_here ∙ ap (λ n. get_or ls n None) (sym s) ∙ e)
         | inr n ↦ h q b (omega arith) d e
       ]
     where
@@ -110,7 +110,7 @@ module _ {X : Type 0} (leads : ℕ → ℕ → Bool) (f : X → Option ℕ) (xs 
 
   -- nothing leads where the candidate did not lead at some place
   pub not_led : (c : Candidate) → OnlyCandidate leads ls c → false ≡ led_by leads c i label → (p : ℕ) → LeadsFrom leads ls p → ⊥
-  not_led c o f p top = by label here f
+  not_led c o f p top = by label told_here f
     where
       by : (label : Option ℕ) → get_or ls i None ≡ label → false ≡ led_by leads c i label → ⊥
       by None here f = false≢true f
