@@ -2,20 +2,16 @@
 use Rattle.std.proofs.Common.{◌≡◌, ℕ, ◌+◌, ◌/◌, ◌%◌, ◌<◌, ◌≤◌, Bool, true, false, not, eqb, List, [], ◌∷◌, ◌++◌, map, length, get_or, take, filter, sym, refl, ap, ◌∙◌, subst, inl, inr, arith}
 use Rattle.std.specs.List.{list_any}
 use Rattle.std.proofs.lemmas.List.{length-map, length-take-le, take_all}
-use Rattle.std.proofs.lemmas.List.Sums.{length-filter, count_by-le-length}
 use Rattle.std.proofs.lemmas.Bool.{false≢true, or_cases, or_parts, eqb-true, eqb-false}
 use Rattle.labels.specs.Plain.{Distinct}
 use Rattle.labels.proofs.Tally.{tally, one_is, one_other}
 use Rattle.labels.proofs.Shorts.{pushed_whole}
 use Rattle.labels.proofs.Chains.{distinct_from_once}
 use Rattle.over.specs.Over.{firsts, outer_parts, under}
-use Rattle.over.proofs.Parts.{outer_once}
+use Rattle.over.proofs.Parts.{outer_once, kept_short}
 use Rattle.over.proofs.Walks.{outer_more, outer_same, under_more, under_same}
 
 -- what was collected is never longer than what was walked
-kept_short : (p : ℕ → Bool) (l : List ℕ) → length (filter p l) ≤ length l
-kept_short p l = omega (arith, length-filter p l, count_by-le-length p l)
-
 firsts_short : (l : List ℕ) → length (firsts l) ≤ length l
 firsts_short [] = omega arith
 firsts_short (x ∷ xs) = omega (arith, firsts_short xs, kept_short (λ y. not (eqb y x)) (firsts xs))

@@ -1,12 +1,12 @@
 -- How often a label stands in a list, and what that says of removals and of other orders.
-use Rattle.std.proofs.Common.{◌≡◌, ℕ, zero, suc, ◌+◌, ◌<◌, ◌≤◌, Bool, true, false, cond, eqb, List, [], ◌∷◌, ◌++◌, map, length, get_or, sum_by, filter, sym, refl, ap, ◌∙◌, subst, inl, inr, arith}
+use Rattle.std.proofs.Common.{◌≡◌, ℕ, zero, suc, ◌+◌, ◌-◌, ◌<◌, ◌≤◌, Bool, true, false, cond, eqb, List, [], ◌∷◌, ◌++◌, map, length, get_or, sum_by, filter, sym, refl, ap, ◌∙◌, subst, inl, inr, arith}
 use Rattle.std.specs.List.{remove, AllByRecursion}
 use Rattle.std.specs.List.Sorted.{IsPermutation}
 use Rattle.std.proofs.lemmas.List.Sums.{sum_by-cons}
-use Rattle.std.proofs.lemmas.List.Sorted.{sum_by-IsPermutation, length_permutation, IsPermutation-refl, IsPermutation-trans, IsPermutation-cons, IsPermutation-swap}
-use Rattle.std.proofs.lemmas.List.{append-nil, length-append, length-map, get_or-map}
+use Rattle.std.proofs.lemmas.List.Sorted.{sum_by-IsPermutation, length_permutation, IsPermutation-refl, IsPermutation-trans, IsPermutation-cons, IsPermutation-remove}
+use Rattle.std.proofs.lemmas.List.{append-nil, length-append, length-map, get_or-map, get_or_default}
 use Rattle.std.proofs.ByRecursion.{All-get_or, All-from_get_or}
-use Rattle.std.proofs.lemmas.List.Edits.{get_or-remove_below, get_or-remove_above, length-remove}
+use Rattle.std.proofs.lemmas.List.Edits.{get_or-remove_below, get_or-remove_above, length-remove, remove-append_right}
 use Rattle.std.proofs.lemmas.Bool.{cases_eq, eq-eqb, ne_eqb, cond-true, cond-false, cases_lt}
 
 abbrev pub one : ℕ → ℕ → ℕ
@@ -88,35 +88,25 @@ other_place l k h two =
 abbrev pub Within : List ℕ → List ℕ → Type 0
 Within m l = (x : ℕ) → tally x m ≤ tally x l
 
--- the first x brought to the front
-pub pulled : (x : ℕ) (l : List ℕ) → 0 < tally x l → (r : List ℕ) × IsPermutation l (x ∷ r)
-pulled x [] h = absurd (omega arith)
-pulled x (y ∷ ys) h =
-    elim (cases_eq y x) [
-      | inl e ↦ (ys, subst (λ z. IsPermutation (y ∷ ys) (z ∷ ys)) e (IsPermutation-refl (y ∷ ys)))
-      | inr n ↦
-          let r = pulled x ys (omega (arith, one_other y x n)) in
-          (y ∷ r.0, IsPermutation-trans _ _ _ (IsPermutation-cons y ys (x ∷ r.0) r.1) (IsPermutation-swap (y ∷ x ∷ r.0) (x ∷ y ∷ r.0) 0 1 (omega arith) (omega arith) refl))
-    ]
-
 -- what is left of l beside a part of it
 pub rest_of : (m l : List ℕ) → Within m l → (r : List ℕ) × IsPermutation l (m ++ r)
 rest_of [] l w = (l, IsPermutation-refl l)
 rest_of (x ∷ m) l w =
-    let p = pulled x l (omega (arith, w x, one_same x)) in
-    let q = rest_of m p.0 (λ y. omega (arith, w y, tally_shuffled y l (x ∷ p.0) p.1)) in
-    (q.0, IsPermutation-trans _ _ _ p.1 (IsPermutation-cons x p.0 (m ++ q.0) q.1))
-
-removed_append : (m : List ℕ) (y : ℕ) (r : List ℕ) → remove (m ++ y ∷ r) (length m) ≡ m ++ r
-removed_append [] y r = refl
-removed_append (x ∷ m) y r = ap (λ l. x ∷ l) (removed_append m y r)
+    let k = place_of x l (omega (arith, w x, one_same x)) in
+    let left : List ℕ = remove l k.0 in
+    -- the x at k brought to the front
+    let p : IsPermutation l (x ∷ left) = IsPermutation-remove l k.0 x k.1 (sym k.2 ∙ get_or_default l k.0 0 x k.1) in
+    let q = rest_of m left (λ y. omega (arith, w y, tally_shuffled y l (x ∷ left) p)) in
+    (q.0, IsPermutation-trans _ _ _ p (IsPermutation-cons x left (m ++ q.0) q.1))
 
 -- what is kept under removals and other orders is kept under every part
 module _ (P : List ℕ → Type 0) (fewer : (l : List ℕ) (k : ℕ) → k < length l → P l → P (remove l k)) (moved : (l m : List ℕ) → IsPermutation l m → P l → P m) where
   front : (m r : List ℕ) → P (m ++ r) → P m
   front m [] p = rw append-nil at p
   front m (y ∷ r) p =
-      front m r (subst P (removed_append m y r) (fewer (m ++ y ∷ r) (length m) (simp length-append (omega arith)) p))
+      let first : length m - length m ≡ 0 = omega arith in
+      let e = remove-append_right m (y ∷ r) (length m) (length m) refl (omega arith) ∙ ap (λ k. m ++ remove (y ∷ r) k) first in
+      front m r (subst P e (fewer (m ++ y ∷ r) (length m) (simp length-append (omega arith)) p))
 
   pub part_kept : (m l : List ℕ) → Within m l → P l → P m
   part_kept m l w p = let r = rest_of m l w in front m r.0 (moved l (m ++ r.0) r.1 p)

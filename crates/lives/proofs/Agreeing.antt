@@ -1,6 +1,7 @@
 -- Two stations opened with equal seats and then given the same calls agree, whatever was called before.
 use Rattle.std.proofs.Common.{◌≡◌, ℕ, ◌≤◌, ◌⊎◌, List, [], ◌∷◌, length, Some, None, Ok, Err, sym, refl, ap, ◌∙◌, subst, inl, inr, ⊎_elim, arith}
 use Rattle.std.proofs.lemmas.Bool.{cases_eq}
+use Rattle.std.proofs.lemmas.Option.{none-some}
 use Rattle.labels.specs.System.{System}
 use Rattle.station.specs.declared.call.Call.{Call}
 use Rattle.station.specs.declared.refusal.Refusal.{Refusal}
@@ -13,7 +14,6 @@ use Rattle.lives.specs.Answers.{Nobody, RefusedWith, Right}
 use Rattle.lives.specs.Lives.{replies, Opened, or_opened, since_opening}
 use Rattle.lives.specs.Promises.{Agree, over, alike, spent, LivesAgree}
 use Rattle.lives.proofs.Upheld.{Upheld}
-use Rattle.lives.proofs.Stays.{none_some}
 use Rattle.lives.proofs.Twins.{Twin, pair_none}
 use Rattle.lives.proofs.TwinReplies.{opening_told, replies_alike, twins_after}
 
@@ -52,7 +52,7 @@ record Opening (s : System) (Fits : Table → History → Type 0) (o : Opened) :
 -- a station that has been opened was new then
 find_opening : (s : System) (Fits : Table → History → Type 0) → Upheld s Fits → (calls : List Call) (t : Table) (past : History) → Fits t past
     → (o : Opened) → since_opening calls (replies s t calls) ≡ Some o → Opening s Fits o
-find_opening s Fits up [] t past fits o e = absurd (none_some refl e)
+find_opening s Fits up [] t past fits o e = absurd (none-some _ e)
 find_opening s Fits up (call ∷ calls) t past fits o e =
     let t' = next s t call in
     let past' : History = record { call = call; reply = reply s t call } ∷ past in

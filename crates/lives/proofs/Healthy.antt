@@ -1,6 +1,7 @@
 -- Stays whose labels are in order and lawful stay so as they come and go. Here the laws of label systems are used.
 use Rattle.std.proofs.Common.{◌≡◌, ℕ, suc, ◌-◌, ◌<◌, ◌≤◌, true, false, [], ◌∷◌, ◌++◌, length, set, Some, None, Option, sym, refl, ap, ◌∙◌, subst, inl, inr, arith}
 use Rattle.std.proofs.lemmas.Bool.{cases_Bool}
+use Rattle.std.proofs.lemmas.Option.{none-some}
 use Rattle.labels.specs.System.{System, Laws}
 use Rattle.labels.proofs.Tally.{part_kept, all_tally, shuffled_from_tally}
 use Rattle.labels.proofs.Leaders.{tally_added}
@@ -9,7 +10,7 @@ use Rattle.lives.specs.History.{Stay, Stays, stay_label, entries, labels_by_seat
 use Rattle.lives.specs.Promises.{InOrder}
 use Rattle.lives.proofs.BySeat.{length_by_seat}
 use Rattle.lives.proofs.Listed.{one_less, one_more, is_listed, fewer_listed, none_listed}
-use Rattle.lives.proofs.Stays.{none_some, without_some, with_some, entries_with, entry_at, entry_none}
+use Rattle.lives.proofs.Stays.{without_some, with_some, entries_with, entry_at, entry_none}
 
 -- the stays of n seats, all begun before now
 pub record Healthy (s : System) (n : ℕ) (f : Stays) (now : ℕ) : Type 0 where
@@ -30,13 +31,13 @@ healthy_later s n f now h = record { seats = h.seats; order = h.order; earlier =
 
 pub healthy_none : (s : System) → Laws s → (n : ℕ) (f : Stays) (now : ℕ) → ((q : ℕ) → f q ≡ None) → Healthy s n f now
 healthy_none s laws n f now none = record {
-  seats = λ a v e. absurd (none_some (none a) e);
+  seats = λ a v e. absurd (none-some _ (sym (none a) ∙ e));
   order = record {
-    later_beats = λ a b v w e d l. absurd (none_some (none a) e);
-    earlier_loses = λ a b v w e d l. absurd (none_some (none a) e);
-    apart = λ a b v w e d l. absurd (none_some (none a) e);
+    later_beats = λ a b v w e d l. absurd (none-some _ (sym (none a) ∙ e));
+    earlier_loses = λ a b v w e d l. absurd (none-some _ (sym (none a) ∙ e));
+    apart = λ a b v w e d l. absurd (none-some _ (sym (none a) ∙ e));
   };
-  earlier = λ a v e. absurd (none_some (none a) e);
+  earlier = λ a v e. absurd (none-some _ (sym (none a) ∙ e));
   lawful = subst s.lawful (sym (none_listed (entries n f) (entry_none n f none))) laws.empty_lawful;
 }
 
@@ -123,4 +124,4 @@ never_none s laws n f now reach h seat low high none endless nothing =
     let size = length_by_seat (λ q. stay_label (f q)) n in
     let few = fewer_listed (entries n f) (seat - 1) (omega (arith, size)) (entry_at n f seat low high ∙ ap stay_label none) in
     let p = laws.endless_some endless (labels_by_seat n f) h.lawful (omega (arith, size, few)) in
-    none_some nothing p.1
+    none-some _ (sym nothing ∙ p.1)

@@ -2,11 +2,12 @@
 use Rattle.std.proofs.Common.{◌≡◌, ℕ, true, eqb, [], ◌∷◌, ◌++◌, length, Some, None, Option, sym, refl, ap, ◌∙◌, inl, inr}
 use Rattle.std.proofs.lemmas.Bool.{cases_eq, eqb-false, ne_eqb, not-true, not_from_false}
 use Rattle.std.specs.List.{AllByRecursion}
+use Rattle.std.proofs.lemmas.Option.{none-some}
 use Rattle.labels.specs.System.{System}
 use Rattle.station.specs.declared.call.Call.{Call}
 use Rattle.lives.specs.History.{Moment, History, Event, event, seats, Stay, Stays, Change, comes, goes, same, labels_by_seat, with_stay, begun, stays, stays_after}
 use Rattle.lives.specs.Intervals.{leaves_alone, LastsSince, Intervals}
-use Rattle.lives.proofs.Stays.{none_some, with_same, with_other}
+use Rattle.lives.proofs.Stays.{with_same, with_other}
 
 module _ (s : System) (change : Event → Change) (beside : Stays → ℕ → Stays) (seat : ℕ) (w : Stay) where
   abbrev Lasts : History → Type 0
@@ -28,7 +29,7 @@ module _ (s : System) (change : Event → Change) (beside : Stays → ℕ → St
 
   -- a stay that began just now
   just_begun : (m : Moment) (past : History) → change (event m) ≡ comes seat → (o : Option ℕ) → s.choice (labels_by_seat (seats past) (beside (stays s change beside past) seat)) ≡ o → begun (length past) m.call o ≡ Some w → Lasts (m ∷ past)
-  just_begun m past e None chosen h = absurd (none_some (sym h) refl)
+  just_begun m past e None chosen h = absurd (none-some _ h)
   just_begun m past e (Some x) chosen h =
       let is : record { since = length past; by = m.call; label = x } ≡ w = cc in
       record {
@@ -44,7 +45,7 @@ module _ (s : System) (change : Event → Change) (beside : Stays → ℕ → St
       }
 
   told_lasts : (past : History) → stays s change beside past seat ≡ Some w → Lasts past
-  told_lasts [] h = absurd (none_some (sym h) refl)
+  told_lasts [] h = absurd (none-some _ h)
   told_lasts (m ∷ past) h = go (change (event m)) refl (told_lasts past)
     where
       go : (c : Change) → change (event m) ≡ c → (stays s change beside past seat ≡ Some w → Lasts past) → Lasts (m ∷ past)
@@ -52,7 +53,7 @@ module _ (s : System) (change : Event → Change) (beside : Stays → ℕ → St
       go (goes named) e before =
           let is : with_stay (stays s change beside past) named None seat ≡ Some w = sym (ap (λ x. stays_after s beside (seats past) (length past) m.call x (stays s change beside past) seat) e) ∙ h in
           elim (cases_eq named seat) [
-            | inl at ↦ absurd (none_some (sym is ∙ ap (λ q. with_stay (stays s change beside past) q None seat) at ∙ with_same (stays s change beside past) seat None) refl)
+            | inl at ↦ absurd (none-some _ (sym (with_same (stays s change beside past) seat None) ∙ ap (λ q. with_stay (stays s change beside past) q None seat) (sym at) ∙ is))
             | inr ne ↦ one_more m past (ap (leaves_alone seat) e ∙ not_from_false (eqb named seat) (ne_eqb named seat ne)) (before (sym (with_other (stays s change beside past) named None seat (λ at. ne (sym at))) ∙ is))
           ]
       go (comes named) e before =

@@ -2,6 +2,7 @@
 use Rattle.std.proofs.Common.{◌≡◌, ℕ, suc, ◌+◌, ◌<◌, Bool, true, false, cond, not, ◌&&◌, eqb, leb, ◌⊎◌, ◌↔◌, List, [], ◌∷◌, ◌++◌, length, get_or, is_some as option_is_some, Some, None, Ok, Err, Option, sym, refl, ap, ◌∙◌, subst, inl, inr, arith}
 use Rattle.std.proofs.lemmas.Bool.{cases_eq, and_parts, not-true, eqb-false}
 use Rattle.std.specs.List.{AllByRecursion}
+use Rattle.std.proofs.lemmas.Option.{none-some}
 use Rattle.labels.specs.System.{System, Laws}
 use Rattle.search.specs.Search.{head_of}
 use Rattle.station.specs.declared.call.Call.{Call}
@@ -20,7 +21,7 @@ use Rattle.station.proofs.Asking.{row_alike}
 use Rattle.lives.specs.History.{History, seats, holder, Stay, Stays, comes, line_change, register_change, labels_by_seat, with_stay, begun, stay_label, waiting, standing, is_seat as holds-seat, facts_told}
 use Rattle.lives.specs.Answers.{Latest, InForce, Compared, RightAnswer, refusal, RefusedWith, Begins, Right}
 use Rattle.lives.specs.Promises.{writing_told, map_written}
-use Rattle.lives.proofs.Stays.{none_some, with_same}
+use Rattle.lives.proofs.Stays.{with_same}
 use Rattle.lives.proofs.Healthy.{Healthy, healthy_without, never_none}
 use Rattle.lives.proofs.Found.{beats_later, head_some, head_none}
 use Rattle.lives.proofs.Shown.{nobody_else, row_shown, label_waits, label_stands, register_entries, facts_agree}
@@ -40,7 +41,7 @@ passed false o e d h = inl (refl, cc)
 -- where the number stands only at the last question, that one is answered no and all before it yes
 only_last : (n : ℕ) (qs : List Asked) (q : Asked) → absent_in n qs ≡ true → (e : Refusal) → first_no (qs ++ q ∷ []) ≡ Some e → number e.reason ≡ n → AllByRecursion (λ (x : Asked). x.holds ≡ true) qs × (q.holds ≡ false)
 only_last n [] q absent e h is =
-    elim (passed q.holds None (record { reason = q.reason; seat = q.seat }) e h) [ inl p ↦ (tt, p.0) | inr p ↦ absurd (none_some (sym p.1) refl) ]
+    elim (passed q.holds None (record { reason = q.reason; seat = q.seat }) e h) [ inl p ↦ (tt, p.0) | inr p ↦ absurd (none-some _ p.1) ]
 only_last n (x ∷ qs) q absent e h is =
     let apart = and_parts (not (eqb (number x.reason) n)) (absent_in n qs) absent in
     elim (passed x.holds (first_no (qs ++ q ∷ [])) (record { reason = x.reason; seat = x.seat }) e h) [
@@ -49,7 +50,7 @@ only_last n (x ∷ qs) q absent e h is =
     ]
 
 absent : (n : ℕ) (qs : List Asked) → absent_in n qs ≡ true → (e : Refusal) → first_no qs ≡ Some e → number e.reason ≡ n → ⊥
-absent n [] none e h is = none_some (sym h) refl
+absent n [] none e h is = none-some _ h
 absent n (x ∷ qs) none e h is =
     let apart = and_parts (not (eqb (number x.reason) n)) (absent_in n qs) none in
     elim (passed x.holds (first_no qs) (record { reason = x.reason; seat = x.seat }) e h) [
@@ -119,7 +120,7 @@ accepted_reply None x a h = (refl, cc)
 accepted_reply (Some e) x a h = let z : ◌≡◌ {A = ℕ} 0 1 = cc in absurd (omega arith)
 
 refused_reply : (r : Reply) (e : Refusal) → refusal r ≡ Some e → r ≡ Err e
-refused_reply (Ok a) e h = absurd (none_some (sym h) refl)
+refused_reply (Ok a) e h = absurd (none-some _ h)
 refused_reply (Err d) e h = let same : d ≡ e = cc in ap Err same
 
 refusal_of : (r : Reply) (e : Refusal) → r ≡ Err e → refusal r ≡ Some e
@@ -129,7 +130,7 @@ refusal_of r e h = ap refusal h
 taken : (r : Reply) (hold : Option ℕ) (tail : Bool) → refusal r ≡ first_no (ask (not (option_is_some hold)) StartTaken 0 ∷ ask tail NobodyWaits 0 ∷ []) → RefusedWith 9 r ↔ ((seat : ℕ) × (hold ≡ Some seat))
 taken r None tail h = (
   λ p. absurd (absent 9 (ask tail NobodyWaits 0 ∷ []) refl p.0 (sym h ∙ refusal_of r p.0 p.1) p.2),
-  λ p. absurd (none_some (sym p.1) refl),
+  λ p. absurd (none-some _ p.1),
 )
 taken r (Some seat) tail h = (λ p. (seat, refl), λ p. (record { reason = StartTaken; seat = 0 }, refused_reply r (record { reason = StartTaken; seat = 0 }) h, refl))
 

@@ -1,7 +1,10 @@
 -- A table that shows who waits, what stands and who holds the start tells the same facts as they do.
 use Rattle.std.proofs.Common.{◌≡◌, ℕ, zero, suc, ◌+◌, ◌-◌, ◌<◌, ◌≤◌, Bool, true, false, not, ◌&&◌, List, [], ◌∷◌, map, length, get_or, set, is_some, Some, None, Option, sym, refl, ap, ◌∙◌, inl, inr, arith}
 use Rattle.std.proofs.lemmas.List.{get_or_past, set_past, length-map}
+use Rattle.std.proofs.lemmas.List.Elements.{All-from_get_or}
+use Rattle.std.proofs.lemmas.List.Folds.{list_any_none, list_any_at}
 use Rattle.std.proofs.lemmas.Bool.{cases_eq, cases_lt, cases_Bool, eq-eqb, eqb-true, or_left, or_right, or_from}
+use Rattle.std.proofs.lemmas.Option.{none-some}
 use Rattle.labels.specs.System.{System, Laws}
 use Rattle.search.specs.Search.{labels_in, head_of, tail_of}
 use Rattle.station.specs.declared.call.Call.TheVariants.{Write}
@@ -13,7 +16,7 @@ use Rattle.station.specs.Told.{row_at, entries_beside, facts}
 use Rattle.lives.specs.History.{Stay, Stays, stay_label, from, rising, entries, labels_by_seat, with_stay, others, someone, is_seat}
 use Rattle.lives.specs.Promises.{line_told, writing_told}
 use Rattle.lives.proofs.BySeat.{length_by_seat, at_place, same_by_seat, map_map}
-use Rattle.lives.proofs.Stays.{none_some, without_none, entries_with}
+use Rattle.lives.proofs.Stays.{without_none, entries_with}
 use Rattle.lives.proofs.Healthy.{Healthy, none_beyond}
 use Rattle.lives.proofs.Found.{tail_some, tail_none, head_some, head_none}
 
@@ -57,7 +60,7 @@ idle_row (Some w) b p = refl
 holding_row : (o : Option Stay) (b : Bool) (p : Option Stay) → (b ≡ true → o ≡ None) → is_holding (told_row o b p) ≡ b
 holding_row None true p h = refl
 holding_row None false p h = refl
-holding_row (Some w) true p h = absurd (none_some (h refl) refl)
+holding_row (Some w) true p h = absurd (none-some _ (sym (h refl)))
 holding_row (Some w) false p h = refl
 
 same_row : (o o' : Option Stay) (b b' : Bool) (p p' : Option Stay) → o ≡ o' → b ≡ b' → p ≡ p' → told_row o b p ≡ told_row o' b' p'
@@ -91,15 +94,6 @@ nobody_else s n f now h none q = go (f q) refl
     go : (o : Option Stay) → f q ≡ o → f q ≡ None
     go None e = e
     go (Some w) e = let within = h.seats q w e in absurd (clash (someone_from f 1 n q w within.0 (omega arith) e))
-
-holds_at : (t : Table) (i : ℕ) → is_holding (get_or t i blank) ≡ true → some_holds t ≡ true
-holds_at [] i e = e
-holds_at (row ∷ t) zero e = or_left (is_holding row) (some_holds t) e
-holds_at (row ∷ t) (suc i) e = or_right (is_holding row) (some_holds t) (holds_at t i e)
-
-holds_nowhere : (t : Table) → ((i : ℕ) → is_holding (get_or t i blank) ≡ false) → some_holds t ≡ false
-holds_nowhere [] none = refl
-holds_nowhere (row ∷ t) none = or_from (is_holding row) (some_holds t) (none 0) (holds_nowhere t (λ i. none (suc i)))
 
 found_some : {X : Type 0} (make : ℕ → Row → X) (t : Table) (o : Option ℕ) → is_some (found_row make t o) ≡ is_some o
 found_some make t None = refl
@@ -174,11 +168,11 @@ module _ (s : System) (laws : Laws s) (t : Table) (n : ℕ) (f g : Stays) (hold 
   some_holds_told = go hold refl
     where
       go : (o : Option ℕ) → hold ≡ o → some_holds t ≡ is_some o
-      go None e = holds_nowhere t (λ i. holds_told (suc i) ∙ not_holding (suc i) (λ d. none_some e d))
+      go None e = list_any_none is_holding t (All-from_get_or (λ row. is_holding row ≡ false) t blank (λ i l. holds_told (suc i) ∙ not_holding (suc i) (λ d. none-some _ (sym e ∙ d))))
       go (Some seat) e =
           let within = h.held seat e in
           let at : suc (seat - 1) ≡ seat = omega arith in
-          holds_at t (seat - 1) (holds_told (suc (seat - 1)) ∙ ap (λ q. is_seat hold q) at ∙ ap (λ (o : Option ℕ). is_seat o seat) e ∙ eq-eqb seat seat refl)
+          list_any_at is_holding t (seat - 1) blank (omega (arith, size, within.0, within.1)) (holds_told (suc (seat - 1)) ∙ ap (λ q. is_seat hold q) at ∙ ap (λ (o : Option ℕ). is_seat o seat) e ∙ eq-eqb seat seat refl)
 
   tail_told : is_some (line_tail s t) ≡ someone f (rising n)
   tail_told = found_some waiting_row t (tail_of s (waiting_entries t)) ∙ ap (λ e. is_some (tail_of s e)) line_entries ∙ go (tail_of s (entries n f)) refl

@@ -3,12 +3,9 @@ use Rattle.std.proofs.Common.{◌≡◌, ℕ, suc, ◌-◌, ◌≤◌, eqb, ◌�
 use mathlib.Core.Path.{fun_ext}
 use Rattle.std.proofs.lemmas.List.{get_or_past}
 use Rattle.std.proofs.lemmas.Bool.{cases_eq, cases_lt, eq-eqb, ne_eqb, cond-true, cond-false}
+use Rattle.std.proofs.lemmas.Option.{none-some}
 use Rattle.lives.specs.History.{Stay, Stays, stay_label, entries, with_stay}
 use Rattle.lives.proofs.BySeat.{length_by_seat, at_place, set_by_seat}
-
--- none is not some
-pub none_some : {A : Type 0} {o : Option A} {x : A} → o ≡ None → o ≡ Some x → ⊥
-none_some p q = let z : ◌≡◌ {A = ℕ} 0 1 = cc in omega arith
 
 module _ (f : Stays) (seat : ℕ) (o : Option Stay) where
   pub with_same : with_stay f seat o seat ≡ o
@@ -31,7 +28,7 @@ without_none f seat none = with_is f f seat None (sym none) (λ q ne. refl)
 
 -- who is there after one has gone
 pub without_some : (f : Stays) (seat q : ℕ) (v : Stay) → with_stay f seat None q ≡ Some v → f q ≡ Some v
-without_some f seat q v h = elim (cases_eq q seat) [ inl e ↦ absurd (none_some (ap (with_stay f seat None) e ∙ with_same f seat None) h) | inr ne ↦ sym (with_other f seat None q ne) ∙ h ]
+without_some f seat q v h = elim (cases_eq q seat) [ inl e ↦ absurd (none-some _ (sym (ap (with_stay f seat None) e ∙ with_same f seat None) ∙ h)) | inr ne ↦ sym (with_other f seat None q ne) ∙ h ]
 
 -- who is there after one has come
 pub with_some : (f : Stays) (seat : ℕ) (w : Stay) (q : ℕ) (v : Stay) → with_stay f seat (Some w) q ≡ Some v → ((q ≡ seat) × (v ≡ w)) ⊎ (f q ≡ Some v)
@@ -58,7 +55,7 @@ pub entry_some : (n : ℕ) (f : Stays) (i x : ℕ) → get_or (entries n f) i No
 entry_some n f i x h =
     elim (cases_lt i n) [
       | inl l ↦ label_some (f (suc i)) x (sym (at_place (λ q. stay_label (f q)) n i None l) ∙ h)
-      | inr l ↦ absurd (none_some (get_or_past (entries n f) i None (omega (arith, length_by_seat (λ q. stay_label (f q)) n))) h)
+      | inr l ↦ absurd (none-some _ (sym (get_or_past (entries n f) i None (omega (arith, length_by_seat (λ q. stay_label (f q)) n))) ∙ h))
     ]
 
 pub entry_none : (n : ℕ) (f : Stays) → ((q : ℕ) → f q ≡ None) → (i : ℕ) → get_or (entries n f) i None ≡ None

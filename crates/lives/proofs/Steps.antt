@@ -3,6 +3,7 @@ use Rattle.std.proofs.Common.{◌≡◌, ℕ, suc, ◌+◌, ◌-◌, ◌<◌, �
 use Rattle.std.proofs.lemmas.List.{length-replicate, get_or-replicate, ext_get_or}
 use Rattle.std.proofs.lemmas.Bool.{and_parts, leb-true, eqb-true, eq-eqb, ne_eqb, not-true}
 use Rattle.std.specs.List.{AllByRecursion}
+use Rattle.std.proofs.lemmas.Option.{none-some}
 use Rattle.labels.specs.System.{System, Laws}
 use Rattle.search.specs.Search.{tail_of, labels_in}
 use Rattle.station.specs.declared.call.Call.{Call}
@@ -21,7 +22,7 @@ use Rattle.lives.specs.History.{History, seats, holder, Stay, Stays, rising, lab
 use Rattle.lives.specs.Answers.{Nobody, Longest}
 use Rattle.lives.specs.Promises.{line_told, writing_told}
 use Rattle.lives.proofs.BySeat.{length_by_seat, at_place, set_by_seat}
-use Rattle.lives.proofs.Stays.{none_some, with_same, with_other, with_twice, without_none, without_some, with_some}
+use Rattle.lives.proofs.Stays.{with_same, with_other, with_twice, without_none, without_some, with_some}
 use Rattle.lives.proofs.Healthy.{Healthy, none_beyond, healthy_later, healthy_none, healthy_without, healthy_with}
 use Rattle.lives.proofs.Found.{tail_some}
 use Rattle.lives.proofs.Shown.{told_row, told_rows, Shown, is_seat_true, not_holding, row_shown, line_entries, choice_waits, choice_stands, facts_agree}
@@ -34,7 +35,7 @@ Fits s t past = Shown s t (seats past) (waiting s past) (standing s past) (holde
 
 yes_first : (b : Bool) (o : Option Refusal) (e : Refusal) → cond b o (Some e) ≡ None → (b ≡ true) × (o ≡ None)
 yes_first true o e h = (refl, h)
-yes_first false o e h = absurd (none_some h refl)
+yes_first false o e h = absurd (none-some _ (sym h))
 
 -- without a first no every question is answered yes
 pub all_yes : (qs : List Asked) → first_no qs ≡ None → AllByRecursion (λ (q : Asked). q.holds ≡ true) qs
@@ -167,8 +168,8 @@ shown_blank s laws n f g hold now few reach nobody nothing free = record {
   reach = reach;
   line = healthy_none s laws n f now nobody;
   register = healthy_none s laws n g now nothing;
-  writers = λ a w e. absurd (none_some (nothing a) e);
-  held = λ seat e. absurd (none_some free e);
+  writers = λ a w e. absurd (none-some _ (sym (nothing a) ∙ e));
+  held = λ seat e. absurd (none-some _ (sym free ∙ e));
 }
   where
     blank_row : (q : ℕ) → told_rows f g hold q ≡ blank
@@ -232,7 +233,7 @@ module _ (s : System) (laws : Laws s) (t : Table) (past : History) (h : Fits s t
   accepted (Leave seat) yes' =
       let within = in_seats (seats past) seat yes'.0 in
       let waits = is_some (waiting s past seat) yes'.1.0 in
-      left_line s laws t (seats past) (waiting s past) (standing s past) (holder past) (length past) h seat within.0 within.1 (λ e. none_some (h.held seat e).2 waits.1)
+      left_line s laws t (seats past) (waiting s past) (standing s past) (holder past) (length past) h seat within.0 within.1 (λ e. none-some _ (sym (h.held seat e).2 ∙ waits.1))
   accepted Start yes' =
       let first = first_in_line yes'.1.0 in
       let within = h.line.seats (waiting_seat (line_tail s t)) first.stay first.here in

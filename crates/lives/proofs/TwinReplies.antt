@@ -1,6 +1,7 @@
 -- One call on two stations that are twins: unless one of them has no label left, the replies are alike and the stations remain twins.
 use Rattle.std.proofs.Common.{◌≡◌, ℕ, ◌≤◌, Bool, true, false, ◌&&◌, eqb, leb, [], ◌∷◌, is_some, Some, None, Ok, Err, Option, sym, refl, ap, ◌∙◌, arith}
 use Rattle.std.proofs.lemmas.Bool.{ne_eqb, eqb-true, leb-true, and_parts}
+use Rattle.std.proofs.lemmas.Option.{none-some}
 use Rattle.labels.specs.System.{System}
 use Rattle.station.specs.declared.call.Call.{Call}
 use Rattle.station.specs.declared.call.Call.TheVariants.{Open, Join, Leave, Start, Finish, Write, Strike, Read, Earlier, Newer, Label}
@@ -15,7 +16,6 @@ use Rattle.station.specs.Facts.{Facts, is_seat, questions_over}
 use Rattle.lives.specs.History.{Moment, History, Event, opened, joined, left, started, finished, written, struck, nothing, event_of, seats, seats_after, line_change, register_change, everyone, others, waiting, standing, rising, facts_told}
 use Rattle.lives.specs.Answers.{RightAnswer, refusal, RefusedWith, Right}
 use Rattle.lives.specs.Promises.{Alike, equal, labels}
-use Rattle.lives.proofs.Stays.{none_some}
 use Rattle.lives.proofs.Twins.{Twin, pair_isSome, someone_same, longest_same, latest_same, in_force_same, compared_same, pairs_after}
 
 -- The questions
@@ -141,8 +141,8 @@ opening_told F n (Open m) (Ok a) h is =
   where
     none_no : (p q : Bool) → None ≡ first_no (ask p AlreadyOpen 0 ∷ ask q SeatCount 0 ∷ ask (leb m F.order) OrderTooSmall 0 ∷ []) → (p ≡ true) × (q ≡ true)
     none_no true true e = (refl, refl)
-    none_no true false e = absurd (none_some refl e)
-    none_no false q e = absurd (none_some refl e)
+    none_no true false e = absurd (none-some _ e)
+    none_no false q e = absurd (none-some _ e)
 opening_told F n (Join seat) (Ok a) h is = let z : ◌≡◌ {A = ℕ} 0 1 = cc in absurd (omega arith)
 opening_told F n (Leave seat) (Ok a) h is = let z : ◌≡◌ {A = ℕ} 0 1 = cc in absurd (omega arith)
 opening_told F n Start (Ok Done) h is = let z : ◌≡◌ {A = ℕ} 0 1 = cc in absurd (omega arith)
@@ -176,7 +176,7 @@ module _ (s u : System) (a b : ℕ) (past then : History) (tw : Twin s u a b pas
   replies_alike has-s has-u = go r q refl refl
     where
       unspent : (x : Reply) (o : Option Refusal) → refusal x ≡ o → (RefusedWith 13 x → ⊥) → Unspent o
-      unspent (Ok y) o e has d is what = absurd (none_some (sym e) is)
+      unspent (Ok y) o e has d is what = absurd (none-some _ (e ∙ is))
       unspent (Err y) o e has d is what = has (d, cc, what)
 
       no : refusal r ≡ refusal q
@@ -189,8 +189,8 @@ module _ (s u : System) (a b : ℕ) (past then : History) (tw : Twin s u a b pas
 
       go : (x y : Reply) → r ≡ x → q ≡ y → Alike call r q
       go (Ok x) (Ok y) e d = rw (e, d) (alike_right s u a b past then tw call x y (right-s.answered x e) (right-u.answered y d))
-      go (Ok x) (Err y) e d = absurd (none_some (ap refusal e) (no ∙ ap refusal d))
-      go (Err x) (Ok y) e d = absurd (none_some (ap refusal d) (sym no ∙ ap refusal e))
+      go (Ok x) (Err y) e d = absurd (none-some _ (sym (ap refusal e) ∙ no ∙ ap refusal d))
+      go (Err x) (Ok y) e d = absurd (none-some _ (sym (ap refusal d) ∙ sym no ∙ ap refusal e))
       go (Err x) (Err y) e d =
           let errors : Some x ≡ Some y = sym (ap refusal e) ∙ no ∙ ap refusal d in
           alike_equal call r q (cc)

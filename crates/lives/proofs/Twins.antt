@@ -1,12 +1,12 @@
 -- Two stations opened with equal seats and then given the same calls: each seat's stays are alike in both.
 use Rattle.std.proofs.Common.{◌≡◌, ℕ, ◌+◌, ◌≤◌, Bool, true, false, cond, eqb, List, [], ◌∷◌, length, is_some, Some, None, Option, sym, refl, ap, ◌∙◌, subst, ⊎_elim, arith}
 use Rattle.std.proofs.lemmas.Bool.{cases_eq, ne_eqb}
+use Rattle.std.proofs.lemmas.Option.{none-some}
 use Rattle.labels.specs.System.{System}
 use Rattle.station.specs.declared.call.Call.{Call}
 use Rattle.station.specs.declared.call.Call.TheVariants.{Write}
 use Rattle.lives.specs.History.{Moment, History, Event, event, seats, holder, Stay, Stays, Change, comes, goes, same, stays, waiting, standing, someone}
 use Rattle.lives.specs.Answers.{Nobody, Longest, Latest, InForce, Compared, Begins}
-use Rattle.lives.proofs.Stays.{none_some}
 
 -- One seat's stay in both stations, opened at the moments a and b: it began equally long after the opening, with the same call.
 abbrev pub Pair : ℕ → ℕ → Option Stay → Option Stay → Type 0
@@ -40,7 +40,7 @@ pair_isSome a b (Some v) (Some w) h = refl
 -- a stay in the first has its fellow in the second
 pair_there : (a b : ℕ) (o p : Option Stay) (v : Stay) → Pair a b o p → o ≡ Some v
     → (w : Stay) × (p ≡ Some w) × (v.since + b ≡ w.since + a) × (v.by ≡ w.by)
-pair_there a b None p v h e = absurd (none_some refl e)
+pair_there a b None p v h e = absurd (none-some _ e)
 pair_there a b (Some x) None v h e = absurd h
 pair_there a b (Some x) (Some w) v h e =
     let d : x ≡ v = cc in
@@ -48,7 +48,7 @@ pair_there a b (Some x) (Some w) v h e =
 
 -- a stay in the second has its fellow in the first
 pair_back : (a b : ℕ) (o p : Option Stay) (w : Stay) → Pair a b o p → p ≡ Some w → (v : Stay) × (o ≡ Some v) × (v.since + b ≡ w.since + a)
-pair_back a b o None w h e = absurd (none_some refl e)
+pair_back a b o None w h e = absurd (none-some _ e)
 pair_back a b None (Some x) w h e = absurd h
 pair_back a b (Some v) (Some x) w h e =
     let d : x ≡ w = cc in
@@ -77,13 +77,13 @@ module _ (a b : ℕ) (f g : Stays) (pairs : Pairs a b f g) where
   nobody_there : (seat : ℕ) (w : Stay) → Nobody f → g seat ≡ Some w → ⊥
   nobody_there seat w nobody e =
       let (v, there, _) = pair_back a b (f seat) (g seat) w (pairs seat) e in
-      none_some (nobody seat) there
+      none-some _ (sym (nobody seat) ∙ there)
 
   -- where the second has no stay, the first has none
   nobody_back : (seat : ℕ) (v : Stay) → Nobody g → f seat ≡ Some v → ⊥
   nobody_back seat v nobody e =
       let (w, there, _, _) = pair_there a b (f seat) (g seat) v (pairs seat) e in
-      none_some (nobody seat) there
+      none-some _ (sym (nobody seat) ∙ there)
 
   -- the stay that has lasted longest is the same seat's in both
   pub longest_same : (i j : ℕ) → Longest f i → Longest g j → i ≡ j

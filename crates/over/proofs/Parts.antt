@@ -2,6 +2,7 @@
 use Rattle.std.proofs.Common.{◌≡◌, ℕ, ◌+◌, ◌*◌, ◌/◌, ◌%◌, ◌<◌, ◌≤◌, Bool, true, not, ◌||◌, eqb, ◌⊎◌, List, [], ◌∷◌, ◌++◌, map, length, Some, filter, sym, refl, ap, ◌∙◌, subst, inl, inr, mod-lt, div-add-mod', arith}
 use lib.Arith.{digits_div, digits_mod}
 use Rattle.std.proofs.lemmas.Bool.{cases_eq, cases_Bool, eqb-true, eq-eqb, ne_eqb, cond-true, cond-false, cases_lt, both_ways, or_cases, or_left, or_right}
+use Rattle.std.proofs.lemmas.List.Sums.{length-filter, count_by-le-length}
 use Rattle.over.specs.Over.{firsts, outer_parts, under, beats_others, first_that, leader}
 use Rattle.labels.proofs.Tally.{one, tally, one_is, one_other, tally_kept, Within, tally_map, tally_map_from, nil_from_tally, all_tally, tally_all}
 use Rattle.labels.proofs.Leaders.{Leads, tally_added}
@@ -114,9 +115,8 @@ under_none n m l none = nil_from_tally (under n m l) (λ z. at z (cases_lt 0 (ta
         ]
 
 -- a kept list is no longer
-kept_short : (p : ℕ → Bool) (l : List ℕ) → length (filter p l) ≤ length l
-kept_short p [] = omega arith
-kept_short p (y ∷ ys) = let h = kept_short p ys in grind arith
+pub kept_short : (p : ℕ → Bool) (l : List ℕ) → length (filter p l) ≤ length l
+kept_short p l = omega (arith, length-filter p l, count_by-le-length p l)
 
 kept_both : (p q : ℕ → Bool) (l : List ℕ) → length (filter p (filter q l)) ≤ length (filter p l)
 kept_both p q [] = omega arith

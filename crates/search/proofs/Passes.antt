@@ -7,10 +7,6 @@ use Rattle.search.specs.Search.{LeadsFrom}
 use Rattle.search.specs.Candidates.{next_best, led_by, OnlyCandidate, Narrows}
 use Rattle.search.specs.declared.search.Candidate.{Candidate}
 
--- what the list of labels has at a place that a walk has come to, where the entry x told r
-pub label_at : {X : Type 0} (f : X → Option ℕ) (xs : List X) (i : ℕ) (x : X) (r : Option ℕ) → i < length xs → x ≡ get_or xs i x → r ≡ f x → get_or (map f xs) i None ≡ r
-label_at f xs i x r lt is told = get_or-map f xs i x None lt ∙ ap f (sym is) ∙ sym told
-
 pub labelled_inside : (ls : List (Option ℕ)) (q b : ℕ) → get_or ls q None ≡ Some b → q < length ls
 labelled_inside ls q b e = elim (cases_lt q (length ls)) [ inl lt ↦ lt | inr ge ↦ absurd (none-some b (sym (get_or_past ls q None ge) ∙ e)) ]
 
@@ -65,14 +61,6 @@ module _ (leads : ℕ → ℕ → Bool) (ls : List (Option ℕ)) where
         ],
   )
 
-  pub next_turn : ((a b : ℕ) → leads a b ≡ true → leads b a ≡ true → ⊥) → (i : ℕ) (label : Option ℕ) (best next : Option Candidate) → get_or ls i None ≡ label → next ≡ next_best leads i label best → SoFar i best → SoFar (i + 1) next
-  next_turn one_way i label best next here is h = subst (SoFar (i + 1)) (sym is) (by label best here h)
-    where
-      by : (label : Option ℕ) (best : Option Candidate) → get_or ls i None ≡ label → SoFar i best → SoFar (i + 1) (next_best leads i label best)
-      by None best here h = unlabelled i best here h
-      by (Some a) None here h = (here, omega arith, λ p lt top. elim (cases_eq p i) [ inl e ↦ e | inr d ↦ absurd (h p (omega arith) top) ])
-      by (Some a) (Some c) here h = cond_both (leads a c.label) (Some (record { place = i; label = a })) (Some c) (SoFar (i + 1)) (λ t. taken one_way i a c here t h) (λ f. kept i a c here f h)
-
   pub narrowed : (n : ℕ) (best : Option Candidate) → length ls ≤ n → SoFar n best → Narrows leads ls best
   narrowed n best le h = by best h
     where
@@ -83,11 +71,32 @@ module _ (leads : ℕ → ℕ → Bool) (ls : List (Option ℕ)) where
       by None h = λ p t. h p (inside p t) t
       by (Some c) h = record { here = h.0; only = λ p t. h.2 p (inside p t) t }
 
-  -- the check of the candidate, turn by turn
-  pub led_next : (c : Candidate) (i : ℕ) (label : Option ℕ) → get_or ls i None ≡ label → true ≡ led_by leads c i label → ((q b : ℕ) → q < i → (q ≡ c.place → ⊥) → get_or ls q None ≡ Some b → leads c.label b ≡ true) → (q b : ℕ) → q < i + 1 → (q ≡ c.place → ⊥) → get_or ls q None ≡ Some b → leads c.label b ≡ true
-  led_next c i label here t h q b lt d e =
+  -- the candidate leads where it led at every place
+  pub all_led : (c : Candidate) (n : ℕ) → length ls ≤ n → OnlyCandidate leads ls c → ((q b : ℕ) → q < n → (q ≡ c.place → ⊥) → get_or ls q None ≡ Some b → leads c.label b ≡ true) → LeadsFrom leads ls c.place
+  all_led c n le o h = record { label = c.label; here = o.here; others = λ q b d e. h q b (omega (arith, labelled_inside ls q b e)) d e }
+
+-- a turn of a pass, where the walk has come to the entry x at place i, which told its label or none
+module _ {X : Type 0} (leads : ℕ → ℕ → Bool) (f : X → Option ℕ) (xs : List X) (i : ℕ) (x : X) (label : Option ℕ) (within : i < length xs) (is : x ≡ get_or xs i x) (told : label ≡ f x) where
+  abbrev ls : List (Option ℕ)
+  ls = map f xs
+
+  told_here : get_or ls i None ≡ label
+  told_here = get_or-map f xs i x None within ∙ ap f (sym is) ∙ sym told
+
+  -- the next candidate
+  pub next_turn : ((a b : ℕ) → leads a b ≡ true → leads b a ≡ true → ⊥) → (best next : Option Candidate) → next ≡ next_best leads i label best → SoFar leads ls i best → SoFar leads ls (i + 1) next
+  next_turn one_way best next is h = subst (SoFar leads ls (i + 1)) (sym is) (by label best told_here h)
+    where
+      by : (label : Option ℕ) (best : Option Candidate) → get_or ls i None ≡ label → SoFar leads ls i best → SoFar leads ls (i + 1) (next_best leads i label best)
+      by None best here h = unlabelled leads ls i best here h
+      by (Some a) None here h = (here, omega arith, λ p lt top. elim (cases_eq p i) [ inl e ↦ e | inr d ↦ absurd (h p (omega arith) top) ])
+      by (Some a) (Some c) here h = cond_both (leads a c.label) (Some (record { place = i; label = a })) (Some c) (SoFar leads ls (i + 1)) (λ t. taken leads ls one_way i a c here t h) (λ f. kept leads ls i a c here f h)
+
+  -- the check of the candidate
+  pub led_next : (c : Candidate) → true ≡ led_by leads c i label → ((q b : ℕ) → q < i → (q ≡ c.place → ⊥) → get_or ls q None ≡ Some b → leads c.label b ≡ true) → (q b : ℕ) → q < i + 1 → (q ≡ c.place → ⊥) → get_or ls q None ≡ Some b → leads c.label b ≡ true
+  led_next c t h q b lt d e =
       elim (cases_eq q i) [
-        | inl s ↦ by label (sym t) s (sym here ∙ ap (λ n. get_or ls n None) (sym s) ∙ e)
+        | inl s ↦ by label (sym t) s (sym told_here ∙ ap (λ n. get_or ls n None) (sym s) ∙ e)
         | inr n ↦ h q b (omega arith) d e
       ]
     where
@@ -99,15 +108,14 @@ module _ (leads : ℕ → ℕ → Bool) (ls : List (Option ℕ)) where
             | inr led ↦ subst (λ z. leads c.label z ≡ true) (same_Some x b e) led
           ]
 
-  -- the candidate leads where it led at every place
-  pub all_led : (c : Candidate) (n : ℕ) → length ls ≤ n → OnlyCandidate leads ls c → ((q b : ℕ) → q < n → (q ≡ c.place → ⊥) → get_or ls q None ≡ Some b → leads c.label b ≡ true) → LeadsFrom leads ls c.place
-  all_led c n le o h = record { label = c.label; here = o.here; others = λ q b d e. h q b (omega (arith, labelled_inside ls q b e)) d e }
-
   -- nothing leads where the candidate did not lead at some place
-  pub not_led : (c : Candidate) (i : ℕ) (label : Option ℕ) → OnlyCandidate leads ls c → get_or ls i None ≡ label → false ≡ led_by leads c i label → (p : ℕ) → LeadsFrom leads ls p → ⊥
-  not_led c i None o here f p top = false≢true f
-  not_led c i (Some b) o here f p top =
-      let at : p ≡ c.place = o.only p top in
-      let same : top.label ≡ c.label = same_Some top.label c.label (sym top.here ∙ ap (λ n. get_or ls n None) at ∙ o.here) in
-      let fails = or_parts (eqb i c.place) (leads c.label b) (sym f) in
-      both_ways (leads c.label b) fails.1 (subst (λ z. leads z b ≡ true) same (top.others i b (λ s. eqb-false i c.place fails.0 (s ∙ at)) here))
+  pub not_led : (c : Candidate) → OnlyCandidate leads ls c → false ≡ led_by leads c i label → (p : ℕ) → LeadsFrom leads ls p → ⊥
+  not_led c o f p top = by label told_here f
+    where
+      by : (label : Option ℕ) → get_or ls i None ≡ label → false ≡ led_by leads c i label → ⊥
+      by None here f = false≢true f
+      by (Some b) here f =
+          let at : p ≡ c.place = o.only p top in
+          let same : top.label ≡ c.label = same_Some top.label c.label (sym top.here ∙ ap (λ n. get_or ls n None) at ∙ o.here) in
+          let fails = or_parts (eqb i c.place) (leads c.label b) (sym f) in
+          both_ways (leads c.label b) fails.1 (subst (λ z. leads z b ≡ true) same (top.others i b (λ s. eqb-false i c.place fails.0 (s ∙ at)) here))

@@ -7,6 +7,7 @@ use Rattle.labels.specs.System.{System, Laws, LeadsAt}
 use Rattle.std.proofs.lemmas.Option.{none-some, same_Some}
 use Rattle.labels.proofs.Exact.{some_or_none}
 use Rattle.search.proofs.Passes.{labelled_inside}
+use Rattle.search.specs.Candidates.{IsLeading}
 use Rattle.search.specs.Search.{leads_rest, first_leading, leading_place, LeadsFrom, Finds, labels_in, FoundWhereLawful, head_of, tail_of}
 
 -- a place one further on
@@ -90,7 +91,7 @@ module _ (leads : ℕ → ℕ → Bool) (one_way : (a b : ℕ) → leads a b ≡
   found_leads p e = first_found leads ls 0 ls p (λ q. let s : 0 + q ≡ q = omega arith in ap (λ n. get_or ls n None) s) e
 
   -- a search that finds a place that leads, or shows that there is none, gives what the definition gives
-  pub is_leading_place : (r : Option ℕ) → MatchOption r ((p : ℕ) → LeadsFrom leads ls p → ⊥) (LeadsFrom leads ls) → r ≡ leading_place leads ls
+  is_leading_place : (r : Option ℕ) → MatchOption r ((p : ℕ) → LeadsFrom leads ls p → ⊥) (LeadsFrom leads ls) → r ≡ leading_place leads ls
   is_leading_place None h = elim (some_or_none (leading_place leads ls)) [ inl e ↦ sym e | inr p ↦ absurd (h p.0 (found_leads p.0 p.1)) ]
   is_leading_place (Some p) h =
       elim (some_or_none (leading_place leads ls)) [
@@ -210,3 +211,15 @@ tail_where_lawful s laws ls r is lawful some none =
     let e : length (labels_in ls) ≡ suc (length (labels_in ls) - 1) = omega arith in
     let k = lowest s laws (length (labels_in ls) - 1) (labels_in ls) e lawful in
     found_from_labels (λ a b. s.beats b a) (λ a b. laws.one_way b a) ls k.0 k.1 (sym is ∙ none)
+
+-- what a search gives where it finds a place that leads, or that none does
+searched : (s : System) (leads : ℕ → ℕ → Bool) → ((a b : ℕ) → leads a b ≡ true → leads b a ≡ true → ⊥) → ((ls : List (Option ℕ)) (r : Option ℕ) → r ≡ leading_place leads ls → FoundWhereLawful s ls r) → (ls : List (Option ℕ)) (r : Option ℕ) → IsLeading leads ls r → (r ≡ leading_place leads ls) × Finds leads ls r × FoundWhereLawful s ls r
+searched s leads one_way where_lawful ls r h =
+    let is = is_leading_place leads one_way ls r h in
+    (is, finds leads one_way ls r is, where_lawful ls r is)
+
+pub head_searched : (s : System) → Laws s → (ls : List (Option ℕ)) (r : Option ℕ) → IsLeading s.beats ls r → (r ≡ head_of s ls) × Finds s.beats ls r × FoundWhereLawful s ls r
+head_searched s laws = searched s s.beats laws.one_way (head_where_lawful s laws)
+
+pub tail_searched : (s : System) → Laws s → (ls : List (Option ℕ)) (r : Option ℕ) → IsLeading (λ a b. s.beats b a) ls r → (r ≡ tail_of s ls) × Finds (λ a b. s.beats b a) ls r × FoundWhereLawful s ls r
+tail_searched s laws = searched s (λ a b. s.beats b a) (λ a b. laws.one_way b a) (tail_where_lawful s laws)

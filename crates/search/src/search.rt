@@ -71,7 +71,7 @@ fn next_best<L: Leads>(
 }
 
 /// Whether the candidate's label leads the label at every other labelled place; if it does not, no place leads.
-#[tactic(auto, using(crate::proofs::Passes::all_led))]
+#[tactic(auto, using(crate::proofs::Passes::all_led, crate::proofs::Passes::led_next))]
 fn leads_others<L: Leads, E: Entry>(by: &L, entries: &[E], found: Candidate) -> bool
     requires { OnlyCandidate (L.relation by.now) (map E.labelled entries.now) found }
     ensures { MatchBool result (LeadsFrom (L.relation by.now) (map E.labelled entries.now) found.place) ((p : ℕ) → LeadsFrom (L.relation by.now) (map E.labelled entries.now) p → ⊥) }

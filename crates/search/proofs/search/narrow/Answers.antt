@@ -1,15 +1,12 @@
 -- Each turn narrows the search to the next candidate, and the last has narrowed it to the one place that can lead.
 use Rattle.std.proofs.Common.{map, arith}
 use Rattle.std.proofs.lemmas.List.{length-map}
-use Rattle.search.proofs.Passes.{label_at, next_turn, narrowed}
+use Rattle.search.proofs.Passes.{next_turn, narrowed}
 use Rattle.search.proofs.search.narrow.Goals as goal
 
 pub loop-place-preserved : goal.loop-place-preserved
 loop-place-preserved g c =
-    let f = g.E.Entry.labelled in
-    let xs = c.args.entries.now in
-    let i = c.loop-place.place in
-    next_turn (g.L.Leads.relation c.args.by.now) (map f xs) (g.met.L.Leads.one_way c.args.by.now) i c.label.result c.loop-place.best c.next_best-best.result (label_at f xs i c.index-entries-place.result c.label.result c.loop-place-test.true c.index-entries-place.is c.label.ensures) c.next_best-best.ensures c.loop-place.invariant
+    next_turn (g.L.Leads.relation c.args.by.now) g.E.Entry.labelled c.args.entries.now c.loop-place.place _ _ c.loop-place-test.true c.index-entries-place.is c.label.ensures (g.met.L.Leads.one_way c.args.by.now) _ _ c.next_best-best.ensures c.loop-place.invariant
 
 pub returns : goal.returns
 returns g c =
