@@ -1,6 +1,6 @@
 //! The steps of a composition's choice, over plain lists of numbers.
 
-ghost use Rattle.std.specs.Prelude.{◌≡◌, ℕ, ◌^◌, ◌<◌, ◌≤◌, true, ◌↔◌, length, IfSome, nat_lt, slice_index};
+ghost use Rattle.std.specs.Prelude.{◌≡◌, ◌^◌, ◌<◌, ◌≤◌, true, ◌↔◌, length, IfSome, nat_lt};
 ghost use Rattle.labels.specs.System.{LeadsAt};
 ghost use Rattle.labels.specs.Plain.{Distinct};
 ghost use Rattle.over.specs.Over.{outer_parts, under, leader, joined};

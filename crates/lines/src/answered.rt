@@ -1,4 +1,4 @@
-ghost use Rattle.std.specs.Prelude.{◌≡◌, ℕ, ◌+◌, ◌≤◌, List, ◌++◌, length, codes, decimal, Result};
+ghost use Rattle.std.specs.Prelude.{◌≡◌, ℕ, ◌+◌, List, codes, decimal, Result};
 ghost use Rattle.station.specs.declared.answer.Answer.{Answer};
 ghost use Rattle.lines.specs.Drafts.{HasRoom, Puts};
 ghost use Rattle.lines.specs.Lines.{started_text, reading_text, verdict_text};

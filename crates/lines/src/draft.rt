@@ -1,4 +1,3 @@
-ghost use Rattle.std.specs.Prelude.{◌≡◌, ◌≤◌, ◌++◌, length};
 ghost use Rattle.lines.specs.Drafts.{HasRoom, Puts};
 
 use arrayvec::ArrayString;
