@@ -15,6 +15,10 @@ module _ (leads : ℕ → ℕ → Bool) (ls : List (Option ℕ)) where
   abbrev pub SoFar : ℕ → Option Candidate → Type 0
   SoFar i best = MatchOption best ((p : ℕ) → p < i → LeadsFrom leads ls p → ⊥) (λ c. (get_or ls c.place None ≡ Some c.label) × (c.place < i) × ((p : ℕ) → p < i → LeadsFrom leads ls p → p ≡ c.place))
 
+  -- the candidate's label leads at the places below i
+  abbrev pub LedSoFar : ℕ → Candidate → Type 0
+  LedSoFar i c = (q b : ℕ) → q < i → (q ≡ c.place → ⊥) → get_or ls q None ≡ Some b → leads c.label b ≡ true
+
   -- a place without a label cannot lead
   pub unlabelled : (i : ℕ) (best : Option Candidate) → get_or ls i None ≡ None → SoFar i best → SoFar (i + 1) best
   unlabelled i None none h = λ p lt t.
@@ -72,7 +76,7 @@ module _ (leads : ℕ → ℕ → Bool) (ls : List (Option ℕ)) where
       by (Some c) h = record { here = h.0; only = λ p t. h.2 p (inside p t) t }
 
   -- the candidate leads where it led at every place
-  pub all_led : (c : Candidate) (n : ℕ) → length ls ≤ n → OnlyCandidate leads ls c → ((q b : ℕ) → q < n → (q ≡ c.place → ⊥) → get_or ls q None ≡ Some b → leads c.label b ≡ true) → LeadsFrom leads ls c.place
+  pub all_led : (c : Candidate) (n : ℕ) → length ls ≤ n → OnlyCandidate leads ls c → LedSoFar n c → LeadsFrom leads ls c.place
   all_led c n le o h = record { label = c.label; here = o.here; others = λ q b d e. h q b (omega (arith, labelled_inside ls q b e)) d e }
 
 -- a turn of a pass, where the walk has come to the entry x at place i, which told its label or none
@@ -93,7 +97,7 @@ module _ {X : Type 0} (leads : ℕ → ℕ → Bool) (f : X → Option ℕ) (xs 
       by (Some a) (Some c) here h = cond_both (leads a c.label) (Some (record { place = i; label = a })) (Some c) (SoFar leads ls (i + 1)) (λ t. taken leads ls one_way i a c here t h) (λ f. kept leads ls i a c here f h)
 
   -- the check of the candidate
-  pub led_next : (c : Candidate) → true ≡ led_by leads c i label → ((q b : ℕ) → q < i → (q ≡ c.place → ⊥) → get_or ls q None ≡ Some b → leads c.label b ≡ true) → (q b : ℕ) → q < i + 1 → (q ≡ c.place → ⊥) → get_or ls q None ≡ Some b → leads c.label b ≡ true
+  pub led_next : (c : Candidate) → true ≡ led_by leads c i label → LedSoFar leads ls i c → LedSoFar leads ls (i + 1) c
   led_next c t h q b lt d e =
       elim (cases_eq q i) [
         | inl s ↦ by label (sym t) s (sym told_here ∙ ap (λ n. get_or ls n None) (sym s) ∙ e)
