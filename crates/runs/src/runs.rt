@@ -28,6 +28,7 @@ pub fn run<S: LabelSystem + Drop>(
     life_of(heap, system, calls)
 }
 
+// The two lives are told in a clause each, as the promises name them one by one.
 /// Puts `calls` to two new stations, one over each system, and gives the replies of both. So a new system is held against
 /// one that is known.
 pub fn run_both<S: LabelSystem + Drop, U: LabelSystem + Drop>(
