@@ -14,6 +14,7 @@ const LONG_ROUNDS: usize = 30;
 
 fn main(rt: HostRuntime) -> anyhow::Result<()> {
     show(&rt, "heptad", &Heptad, ROUNDS)?;
+    // No `?`: a refusal is printed, and the rest goes on.
     match Counter::new(3, 10) {
         Ok(counter) => show(&rt, "counter", &counter, ROUNDS)?,
         Err(refusal) => println!(rt; "counter refused {}", refusal.number())?,

@@ -6,6 +6,7 @@ use super::entry::Entry;
 use station::{Answer, Call, Refusal};
 
 /// The number in place of an answer that is not its call's. A station gives none such, and no refusal has this number.
+// A number and no `Option`: by a rule of the project a line tells any number of 8 bits.
 const MISPLACED: u8 = 0;
 
 /// The entry for a station's reply to a call.

@@ -59,7 +59,7 @@ fn list_word<S: LabelSystem>(
     let outcome = step(station, index, word);
     let entry = entry_for(word, outcome);
     put_line(out, Line { index, entry })?;
-    // A bool, since the loop would only turn a `ControlFlow` back into one.
+    // A `bool`, since the loop would only turn a `ControlFlow` back into one.
     Ok(!ends(outcome))
 }
 

@@ -20,7 +20,7 @@ pub fn step<S: LabelSystem>(
     answer_word(station, word).map_err(|cause| ReplayFault { index, cause })
 }
 
-// That the system stays is told here, by `step` and by `list_word`: what a step leaves is told of tables alone.
+// That the system stays is told here, by `step` and by `list_word`: a record with what a step leaves is no shorter.
 fn answer_word<S: LabelSystem>(station: &mut Station<S>, word: u32) -> Result<Answer, Cause>
     ensures answers { result ≡ answered (S.meaning station.old.system) (table station.old) (call_of word) }
     ensures leaves { table station.new ≡ left (S.meaning station.old.system) (table station.old) (call_of word) }

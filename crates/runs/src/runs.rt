@@ -28,7 +28,6 @@ pub fn run<S: LabelSystem + Drop>(
     life_of(heap, system, calls)
 }
 
-// The two lives are told in a clause each, as the promises name them one by one.
 /// Puts `calls` to two new stations, one over each system, and gives the replies of both. So a new system is held against
 /// one that is known.
 pub fn run_both<S: LabelSystem + Drop, U: LabelSystem + Drop>(
@@ -54,6 +53,7 @@ pub fn run_piles(heap: Global, calls: &[Call]) -> Result<Both, AllocError>
 }
 
 /// The replies of two new stations.
+// Its two clauses stand at `run_both` too, so that an edit that turns a value is refused here.
 fn lives_of<S: LabelSystem + Drop, U: LabelSystem + Drop>(
     heap: Global,
     first: S,

@@ -27,6 +27,7 @@ fn serve_all<S: LabelSystem>(
     ensures { IfOk result (λ given. given.items ≡ replies (S.meaning station.old.system) (table station.old) calls.now) }
 {
     let mut given = Vec::new(heap);
+    // By `for`: each call changes the station that the next one meets.
     for call in calls {
         given.push(station.serve(*call))?;
     }

@@ -1,12 +1,12 @@
 use super::entry::Entry;
 
-// No generic row with the waiting row, which would carry an empty field. The map stands beside the label, which by a rule
-// of the project is an `Option` of the entry.
+// No generic row with the waiting row, which would carry an empty field.
 /// A seat with its standing writing, a map number and its label, or without one.
 #[derive(Clone, Copy, Default, PartialEq, Eq, Debug)]
 pub struct WritingRow {
     pub seat: u8,
     pub label: Option<u32>,
+    // Beside the label, which by a rule of the project is an `Option` of the entry.
     pub map: u16,
 }
 

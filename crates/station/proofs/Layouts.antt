@@ -1,6 +1,7 @@
 -- Rows laid out one by one, and what a search reads off them.
-use Rattle.std.proofs.Common.{◌≡◌, ℕ, zero, suc, ◌+◌, ◌<◌, ◌≤◌, true, leb, List, [], ◌∷◌, map, length, get_or, take, Some, None, Option, refl, ap, ◌∙◌, arith}
-use Rattle.std.proofs.lemmas.List.{take_all}
+use Rattle.std.proofs.Common.{◌≡◌, ℕ, zero, suc, ◌+◌, ◌-◌, ◌<◌, ◌≤◌, true, leb, List, [], ◌∷◌, map, length, get_or, take, set, Some, None, Option, refl, ap, ◌∙◌, arith}
+use Rattle.std.proofs.lemmas.List.{take_all, length-map, length-set, map-set}
+use Rattle.std.proofs.Math.Seq.{take-set-lt}
 use Rattle.std.proofs.lemmas.Bool.{and_from, le-leb}
 use Rattle.station.specs.declared.row.Row.{Row}
 use Rattle.station.specs.Table.{Table, seated}
@@ -42,3 +43,12 @@ length_labels_in (Some a ∷ ls) = omega (arith, length_labels_in ls)
 
 pub all_listed : (ls : List (Option ℕ)) → length ls ≤ 20 → take 20 (labels_in ls) ≡ labels_in ls
 all_listed ls few = take_all 20 (labels_in ls) (omega (arith, length_labels_in ls))
+
+-- rows in front of an array, of which one is left out: the labels that are listed are those of the other seats
+pub listed_others : {X : Type 0} (make : ℕ → Row → X) (f : X → Option ℕ) (g : Row → Option ℕ) (same : (n : ℕ) (row : Row) → f (make n row) ≡ g row) (t slice : Table) (arr : List X) (is : slice ≡ t) (few : length slice ≤ 20) (laid : take (length slice) arr ≡ laid_out make 1 slice) (i : ℕ) (none : X) → f none ≡ None → i < length slice → (others : List X) → others ≡ set arr i none → take 20 (labels_in (map f (take (length slice - 0) others))) ≡ labels_in (set (map g t) i None)
+listed_others {X} make f g same t slice arr is few laid i none blank lt others left =
+    let front : take (length slice) (set arr i none) ≡ set (laid_out make 1 t) i none = take-set-lt (length slice) arr i none lt ∙ ap (λ (l : List X). set l i none) (laid ∙ ap (laid_out make 1) is) in
+    let whole : length slice - 0 ≡ length slice = omega arith in
+    let e : map f (take (length slice - 0) (set arr i none)) ≡ set (map g t) i None =
+    ap (λ n. map f (take n (set arr i none))) whole ∙ ap (map f) front ∙ map-set f (laid_out make 1 t) i none ∙ ap (λ (l : List (Option ℕ)). set l i (f none)) (laid_entries make f g same 1 t) ∙ ap (set (map g t) i) blank in
+    ap (λ (l : List X). take 20 (labels_in (map f (take (length slice - 0) l)))) left ∙ ap (λ (l : List (Option ℕ)). take 20 (labels_in l)) e ∙ all_listed (set (map g t) i None) (omega (arith, length-set (map g t) i None, length-map t g, ap length is))

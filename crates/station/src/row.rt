@@ -51,7 +51,7 @@ impl Row {
         matches!(self.line, Line::Holding)
     }
 
-    // As `holding`: one function for both would take the line, the reason and the seat.
+    // As `holding`: one function for both would take the line, the reason and the seat, and be no shorter.
     pub(crate) fn idle(&self, seat: u8) -> Result<(), Refusal>
         ensures { result ≡ granted (is_idle self.now) tt NotIdle seat }
     {

@@ -5,7 +5,7 @@ ghost use Rattle.station.specs.Serving.{Served};
 use super::super::call::Call;
 use super::super::refusal::{Reason, Refusal};
 use super::Station;
-use labels::LabelSystem;
+use labels::{LabelSystem, Size};
 
 impl<S: LabelSystem> Station<S> {
     /// Gives the station its seats, idle and without writing.
@@ -15,7 +15,7 @@ impl<S: LabelSystem> Station<S> {
         if !self.rows.is_empty() {
             return Err(Reason::AlreadyOpen.about(0));
         }
-        if !(1..=20).contains(&seats) {
+        if !(1..=Size::MAX_ORDER).contains(&seats) {
             return Err(Reason::SeatCount.about(0));
         }
         if seats > self.system.order() {

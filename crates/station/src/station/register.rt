@@ -12,7 +12,7 @@ use super::super::row::Writing;
 use super::Station;
 use labels::LabelSystem;
 
-// What a call answers stands with each call, since each has an answer of its own kind.
+// No record as `Served` for what these calls and `earlier` answer: each has its own kind, and a clause is no longer.
 impl<S: LabelSystem> Station<S> {
     /// A seat's writing is replaced by a map number, with the label that the system chooses beside the other writings.
     pub fn write(&mut self, seat: u8, map: u32) -> Result<(), Refusal>
