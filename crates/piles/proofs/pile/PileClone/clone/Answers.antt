@@ -1,12 +1,7 @@
--- A copy of the system answers as the pile in one way only, so it is the same pile.
-use Rattle.std.proofs.Common.{◌≡◌, ap}
-use Rattle.std.proofs.Props.{props}
-use Rattle.labels.specs.System.{System}
-use Rattle.piles.specs.Answers.{AnswersAs}
+-- The copy has the pile's system.
+use Rattle.std.proofs.Common.{rules}
+use Rattle.piles.proofs.Same.{same_pile}
 use Rattle.piles.proofs.pile.PileClone.clone.Goals as goal
 
-in_one_way : (s t : System) (p q : AnswersAs s t) → p ≡ q
-in_one_way s t = Prim.hlevel props
-
 pub returns : goal.returns
-returns g c = record { cases = ap (λ answers. record { system = c.args.self.now.system; as_shipped = answers }) (in_one_way _ _ _ c.args.self.now.as_shipped) }
+returns g c = record { cases = same_pile _ c.args.self.now (search rules) }
