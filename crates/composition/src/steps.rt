@@ -1,6 +1,7 @@
 //! The steps of a composition's choice, over plain lists of numbers.
 
-ghost use Rattle.std.specs.Prelude.{◌≡◌, ◌^◌, ◌<◌, ◌≤◌, true, ◌↔◌, length, IfSome, nat_lt};
+ghost use Rattle.std.specs.Prelude.{◌≡◌, ◌^◌, ◌<◌, ◌≤◌, true, ◌↔◌, length, IfSome, nat_eq, nat_lt};
+ghost use Rattle.std.specs.List.{list_any};
 ghost use Rattle.labels.specs.System.{LeadsAt};
 ghost use Rattle.labels.specs.Plain.{Distinct};
 ghost use Rattle.over.specs.Over.{outer_parts, under, leader, joined};
@@ -17,11 +18,19 @@ pub(crate) fn outer_parts(labels: &[u32], width: u32) -> ShortList
     let mut parts = ShortList::new();
     for label in labels {
         let part = *label / width;
-        if !parts.as_slice().contains(&part) {
+        if !holds(parts.as_slice(), part) {
             parts.push(part);
         }
     }
     parts
+}
+
+/// Whether `number` is one of `numbers`.
+// Not by `contains`, which reads many at a time what has only just been written one by one, and waits for it.
+fn holds(numbers: &[u32], number: u32) -> bool
+    ensures { result ≡ list_any (λ y. nat_eq y number) numbers.now }
+{
+    numbers.iter().any(|other| *other == number)
 }
 
 /// The inner parts of those labels that have the outer part `part`.

@@ -12,10 +12,10 @@ use Rattle.over.proofs.Parts.{outer_from, leader_some}
 use Rattle.over.proofs.Sizes.{Fitting, room_fits, inner_pos, outer_label, made_label}
 
 -- a part that is a label, if there is one
-abbrev LabelOf : System → Option ℕ → Type 0
+abbrev pub LabelOf : System → Option ℕ → Type 0
 LabelOf s p = IfSome p (λ a. a < s.count)
 
-chosen_part : (s : System) → Laws s → (l : List ℕ) (p : Option ℕ) → p ≡ s.choice l → LabelOf s p
+pub chosen_part : (s : System) → Laws s → (l : List ℕ) (p : Option ℕ) → p ≡ s.choice l → LabelOf s p
 chosen_part s laws l None e = tt
 chosen_part s laws l (Some a) e = laws.chosen_label l a (sym e)
 
@@ -60,12 +60,12 @@ module _ {t : Two} {order count width : ℕ} {l : List ℕ} (b : Begun t order c
       let pos : 0 < length l = omega (arith, eqb-false (length l) 0 (sym some)) in
       (omega (arith, room, fit.order_le), omega (arith, b.width_is, inner_pos o i lo li (get_or l 0 0) (All-get_or (λ y. y < over_count o i) l 0 0 pos labels)))
 
-  joined_small : (p q : Option ℕ) → LabelOf o p → LabelOf i q → IfSome (joined width p q) (λ x. x < 2 ^ 28)
+  pub joined_small : (p q : Option ℕ) → LabelOf o p → LabelOf i q → IfSome (joined width p q) (λ x. x < 2 ^ 28)
   joined_small None q hp hq = tt
   joined_small (Some x) None hp hq = tt
   joined_small (Some x) (Some y) hp hq = rw b.width_is (omega (arith, made_label o i lo li x y fit hp hq, fit.count_le))
 
-  leader_part : (m : ℕ) (slice parts : List ℕ) → Some m ≡ leader o.beats slice → slice ≡ parts → parts ≡ outer_parts width l → LabelOf o (Some m)
+  pub leader_part : (m : ℕ) (slice parts : List ℕ) → Some m ≡ leader o.beats slice → slice ≡ parts → parts ≡ outer_parts width l → LabelOf o (Some m)
   leader_part m slice parts e is_Slice is-parts =
       let D : List ℕ = outer_parts i.count l in
       let at : slice ≡ D = is_Slice ∙ is-parts ∙ ap (λ n. outer_parts n l) b.width_is in

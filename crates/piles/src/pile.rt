@@ -72,7 +72,7 @@ impl<S: Shipped> LabelSystem for Pile<S> {
 
 // By hand: a derive is refused beside a ghost field that speaks of a bound, and so is `*self`, which holds an `S`.
 impl<S: Shipped> Clone for Pile<S> {
-    ghost is_clone = { λ pile copy. copy.system ≡ pile.system };
+    ghost is_clone = { λ pile copy. copy ≡ pile };
 
     ghost is_infallible = { λ _. ⊤ };
 

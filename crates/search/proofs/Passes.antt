@@ -84,7 +84,7 @@ module _ {X : Type 0} (leads : ℕ → ℕ → Bool) (f : X → Option ℕ) (xs 
   abbrev ls : List (Option ℕ)
   ls = map f xs
 
-  told_here : get_or ls i None ≡ label
+  pub told_here : get_or ls i None ≡ label
   told_here = get_or-map f xs i x None within ∙ ap f (sym is) ∙ sym told
 
   -- the next candidate

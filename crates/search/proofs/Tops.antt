@@ -91,7 +91,7 @@ module _ (leads : ℕ → ℕ → Bool) (one_way : (a b : ℕ) → leads a b ≡
   found_leads p e = first_found leads ls 0 ls p (λ q. let s : 0 + q ≡ q = omega arith in ap (λ n. get_or ls n None) s) e
 
   -- a search that finds a place that leads, or shows that there is none, gives what the definition gives
-  is_leading_place : (r : Option ℕ) → MatchOption r ((p : ℕ) → LeadsFrom leads ls p → ⊥) (LeadsFrom leads ls) → r ≡ leading_place leads ls
+  pub is_leading_place : (r : Option ℕ) → MatchOption r ((p : ℕ) → LeadsFrom leads ls p → ⊥) (LeadsFrom leads ls) → r ≡ leading_place leads ls
   is_leading_place None h = elim (some_or_none (leading_place leads ls)) [ inl e ↦ sym e | inr p ↦ absurd (h p.0 (found_leads p.0 p.1)) ]
   is_leading_place (Some p) h =
       elim (some_or_none (leading_place leads ls)) [

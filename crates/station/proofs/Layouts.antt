@@ -9,7 +9,7 @@ use Rattle.search.specs.Search.{labels_in}
 use Rattle.station.specs.Layout.{laid_out}
 
 module _ {X : Type 0} (make : ℕ → Row → X) where
-  laid_entries : {Y : Type 0} (f : X → Y) (g : Row → Y) → ((n : ℕ) (row : Row) → f (make n row) ≡ g row) → (k : ℕ) (t : Table) → map f (laid_out make k t) ≡ map g t
+  pub laid_entries : {Y : Type 0} (f : X → Y) (g : Row → Y) → ((n : ℕ) (row : Row) → f (make n row) ≡ g row) → (k : ℕ) (t : Table) → map f (laid_out make k t) ≡ map g t
   laid_entries f g same k [] = refl
   laid_entries f g same k (row ∷ t) = ap (λ y. y ∷ map f (laid_out make (k + 1) t)) (same k row) ∙ ap (λ l. g row ∷ l) (laid_entries f g same (k + 1) t)
 

@@ -1,3 +1,6 @@
+ghost use Rattle.std.specs.Prelude.{◌≤◌};
+ghost use Rattle.arrayvec.specs.ArrayVec.{array_vec_len};
+
 use super::row::Row;
 use arrayvec::ArrayVec;
 
@@ -14,4 +17,6 @@ mod view;
 pub struct Station<S> {
     system: S,
     rows: ArrayVec<Row, 20>,
+    // Of an array vector a proof sees only its items, so that they are no more than it has room for is said here.
+    ghost few: { array_vec_len rows ≤ 20 },
 }

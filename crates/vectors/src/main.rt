@@ -8,12 +8,14 @@ use std::rt::Files;
 
 fn main(rt: HostRuntime) -> anyhow::Result<()> {
     let names = fs::read_to_string(&rt, "names")?;
-    let verdicts: Vec<bool> = names
+    // Two counts and no list of verdicts, which would take memory for each name.
+    let (agree, all) = names
         .lines()
-        .map(|name| agrees(&rt, name))
-        .try_collect(rt.alloc())?;
-    let agree = verdicts.iter().filter(|agrees| **agrees).count();
-    println!(rt; "{agree} of {} listings agree", verdicts.len())?;
+        .try_fold((0_usize, 0_usize), |(agree, all), name| {
+            let one = usize::from(agrees(&rt, name)?);
+            Ok::<_, anyhow::Error>((agree.saturating_add(one), all.saturating_add(1)))
+        })?;
+    println!(rt; "{agree} of {all} listings agree")?;
     Ok(())
 }
 

@@ -10,6 +10,7 @@ use super::super::call::Call;
 use super::super::refusal::{Reason, Refusal};
 use super::super::row::Line;
 use super::Station;
+use super::view::row_mut;
 use labels::LabelSystem;
 
 impl<S: LabelSystem> Station<S> {
@@ -21,7 +22,7 @@ impl<S: LabelSystem> Station<S> {
         let label = self
             .waiting_choice()
             .ok_or(Reason::NoLabelLeft.about(seat))?;
-        self.row_mut(seat)?.line = Line::Waiting(label);
+        row_mut(&mut self.rows, seat)?.line = Line::Waiting(label);
         Ok(())
     }
 
@@ -30,7 +31,7 @@ impl<S: LabelSystem> Station<S> {
         ensures { Served S.meaning self.old self.new (Call.Leave seat) (told (λ _. Done) result) }
     {
         // As `finish` and `strike`: one function for the three would take two closures, and be no shorter.
-        let row = self.row_mut(seat)?;
+        let row = row_mut(&mut self.rows, seat)?;
         row.waiting(seat)?;
         row.line = Line::Idle;
         Ok(())
@@ -46,7 +47,7 @@ impl<S: LabelSystem> Station<S> {
         let first = self.line_tail().ok_or(Reason::NobodyWaits.about(0))?;
         let map = self.register_head().map(|writing| writing.map);
         // Never refused: a seat that waits is one of the station's.
-        self.row_mut(first.seat)?.line = Line::Holding;
+        row_mut(&mut self.rows, first.seat)?.line = Line::Holding;
         Ok(Started {
             seat: first.seat,
             map,
@@ -57,7 +58,7 @@ impl<S: LabelSystem> Station<S> {
     pub fn finish(&mut self, seat: u8) -> Result<(), Refusal>
         ensures { Served S.meaning self.old self.new (Call.Finish seat) (told (λ _. Done) result) }
     {
-        let row = self.row_mut(seat)?;
+        let row = row_mut(&mut self.rows, seat)?;
         row.holding(seat)?;
         row.line = Line::Idle;
         Ok(())

@@ -10,6 +10,7 @@ use super::super::call::Call;
 use super::super::refusal::{Reason, Refusal};
 use super::super::row::Writing;
 use super::Station;
+use super::view::row_mut;
 use labels::LabelSystem;
 
 // No record as `Served` for what these calls and `earlier` answer: each has its own kind, and a clause is no longer.
@@ -23,7 +24,7 @@ impl<S: LabelSystem> Station<S> {
         let label = self
             .standing_choice(seat)
             .ok_or(Reason::NoLabelLeft.about(seat))?;
-        self.row_mut(seat)?.writing = Some(Writing { label, map });
+        row_mut(&mut self.rows, seat)?.writing = Some(Writing { label, map });
         Ok(())
     }
 
@@ -31,7 +32,7 @@ impl<S: LabelSystem> Station<S> {
     pub fn strike(&mut self, seat: u8) -> Result<(), Refusal>
         ensures { Served S.meaning self.old self.new (Call.Strike seat) (told (λ _. Done) result) }
     {
-        let row = self.row_mut(seat)?;
+        let row = row_mut(&mut self.rows, seat)?;
         row.standing(seat)?;
         row.writing = None;
         Ok(())

@@ -34,21 +34,6 @@ impl<S: LabelSystem> Station<S> {
             .ok_or(Reason::NoSuchSeat.about(seat))
     }
 
-    /// The row of a seat, lent to be changed, where the seat is one of the station's.
-    pub(crate) fn row_mut(&mut self, seat: u8) -> Result<&mut Row, Refusal>
-        ensures* lends { sem 𝓛 (LendsRow S.row self.entry seat result) }
-        ensures value { MatchResult result (λ row. (seated (table self.old) seat ≡ true) × (row.now ≡ row_of (table self.old) seat)) (λ e. (seated (table self.old) seat ≡ false) × (e ≡ record { reason = NoSuchSeat; seat = seat })) }
-    {
-        if seat == 0 {
-            return Err(Reason::NoSuchSeat.about(seat));
-        }
-        // Not by `checked_sub` and `ok_or`, as `row`: tried, and the proof doesn't follow a row lent through them.
-        match self.rows.get_mut(usize::from(seat) - 1) {
-            Some(row) => Ok(row),
-            None => Err(Reason::NoSuchSeat.about(seat)),
-        }
-    }
-
     /// Gives the station its seats, idle and without writing.
     pub(crate) fn seat(&mut self, seats: u8)
         requires { seats ≤ 20 }
@@ -57,5 +42,24 @@ impl<S: LabelSystem> Station<S> {
     {
         self.rows = ArrayVec::from([Row::default(); 20]);
         self.rows.truncate(usize::from(seats));
+    }
+}
+
+/// The row of a seat, lent to be changed, where the seat is one of those that have rows.
+// Over the rows alone, since a station says how many they are at most, and no proof follows a row lent past that.
+pub(crate) fn row_mut<const ROOM: usize>(
+    rows: &mut ArrayVec<Row, ROOM>,
+    seat: u8,
+) -> Result<&mut Row, Refusal>
+    ensures* lends { sem 𝓛 (LendsRow ROOM.row rows.entry seat result) }
+    ensures value { MatchResult result (λ row. (seated rows.old.items seat ≡ true) × (row.now ≡ row_of rows.old.items seat)) (λ e. (seated rows.old.items seat ≡ false) × (e ≡ record { reason = NoSuchSeat; seat = seat })) }
+{
+    if seat == 0 {
+        return Err(Reason::NoSuchSeat.about(seat));
+    }
+    // Not by `checked_sub` and `ok_or`, as `row`: tried, and the proof doesn't follow a row lent through them.
+    match rows.get_mut(usize::from(seat) - 1) {
+        Some(row) => Ok(row),
+        None => Err(Reason::NoSuchSeat.about(seat)),
     }
 }

@@ -27,7 +27,7 @@ joined-requires g c =
 
 pub joined-requires-then-can_grow : goal.joined-requires-then-can_grow
 joined-requires-then-can_grow g c =
-    grown_small (known g c.args.self.now.outer c.args.self.now.inner _ c.size.ensures.order c.size.ensures.count c.count-width.ensures c.if-not-takes_one_more.ensures) c.in-Some.m _ _ _ _ c.in-Some.ensures c.as_slice.ensures c.outer_parts-parts.ensures.parts c.choose-then-can_grow.ensures
+    grown_small (known g c.args.self.now.outer c.args.self.now.inner _ c.size.ensures.order c.size.ensures.count c.count-width.ensures c.if-not-takes_one_more.ensures) c.in-Some.m _ _ _ _ c.in-Some.ensures c.as_slice.ensures.list c.outer_parts-parts.ensures.parts c.choose-then-can_grow.ensures
 
 pub joined-requires-else-can_grow : goal.joined-requires-else-can_grow
 joined-requires-else-can_grow g c =

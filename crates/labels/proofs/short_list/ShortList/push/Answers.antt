@@ -7,7 +7,7 @@ pub invariant_of-self : goal.invariant_of-self
 invariant_of-self c =
     let s = c.self.inside in
     let inside = c.self.invariant in
-    (omega (arith, c.if-self-lt20.true), search (rules, inside.1), rest_stays s.items s.len c.args.number inside.1 c.if-self-lt20.true inside.2)
+    (omega (arith, c.if-self-lt20.true), search (rules, inside.1), rest_stays s.items s.len _ inside.1 c.if-self-lt20.true inside.2)
 
 pub returns-else-self-lt20 : goal.returns-else-self-lt20
 returns-else-self-lt20 c =
