@@ -1,3 +1,4 @@
+pub mod Same
 pub mod Layouts
 pub mod Asking
 pub mod Orders

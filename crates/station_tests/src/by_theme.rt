@@ -116,6 +116,26 @@ fn the_last_writing_is_in_force(rt: HostRuntime) -> Result<(), Fail> {
 }
 
 #[test]
+fn a_call_changes_the_row_of_its_own_seat_alone(rt: HostRuntime) -> Result<(), Fail> {
+    let mut station = Station::new(Counter::new(20, 100)?);
+    station.open(20)?;
+    for seat in 1..=20u8 {
+        station.write(seat, 7)?;
+    }
+    for seat in [0u8, 21, 255] {
+        refused(&rt, station.strike(seat), Reason::NoSuchSeat, seat)?;
+    }
+    for seat in [1u8, 2, 20] {
+        station.strike(seat)?;
+        refused(&rt, station.label(seat), Reason::NoWriting, seat)?;
+    }
+    for (label, seat) in (2u32..).zip(3..=19u8) {
+        assert_eq!(rt; station.label(seat)?, label);
+    }
+    Ok(())
+}
+
+#[test]
 fn a_refused_write_keeps_the_old_writing(rt: HostRuntime) -> Result<(), Fail> {
     let mut station = Station::new(Counter::new(3, 2)?);
     station.open(2)?;

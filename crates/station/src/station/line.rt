@@ -10,7 +10,6 @@ use super::super::call::Call;
 use super::super::refusal::{Reason, Refusal};
 use super::super::row::Line;
 use super::Station;
-use super::view::row_mut;
 use labels::LabelSystem;
 
 impl<S: LabelSystem> Station<S> {
@@ -22,7 +21,7 @@ impl<S: LabelSystem> Station<S> {
         let label = self
             .waiting_choice()
             .ok_or(Reason::NoLabelLeft.about(seat))?;
-        row_mut(&mut self.rows, seat)?.line = Line::Waiting(label);
+        self.row_mut(seat)?.line = Line::Waiting(label);
         Ok(())
     }
 
@@ -31,7 +30,7 @@ impl<S: LabelSystem> Station<S> {
         ensures { Served S.meaning self.old self.new (Call.Leave seat) (told (λ _. Done) result) }
     {
         // As `finish` and `strike`: one function for the three would take two closures, and be no shorter.
-        let row = row_mut(&mut self.rows, seat)?;
+        let row = self.row_mut(seat)?;
         row.waiting(seat)?;
         row.line = Line::Idle;
         Ok(())
@@ -47,7 +46,7 @@ impl<S: LabelSystem> Station<S> {
         let first = self.line_tail().ok_or(Reason::NobodyWaits.about(0))?;
         let map = self.register_head().map(|writing| writing.map);
         // Never refused: a seat that waits is one of the station's.
-        row_mut(&mut self.rows, first.seat)?.line = Line::Holding;
+        self.row_mut(first.seat)?.line = Line::Holding;
         Ok(Started {
             seat: first.seat,
             map,
@@ -58,7 +57,7 @@ impl<S: LabelSystem> Station<S> {
     pub fn finish(&mut self, seat: u8) -> Result<(), Refusal>
         ensures { Served S.meaning self.old self.new (Call.Finish seat) (told (λ _. Done) result) }
     {
-        let row = row_mut(&mut self.rows, seat)?;
+        let row = self.row_mut(seat)?;
         row.holding(seat)?;
         row.line = Line::Idle;
         Ok(())

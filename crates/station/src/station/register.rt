@@ -10,7 +10,6 @@ use super::super::call::Call;
 use super::super::refusal::{Reason, Refusal};
 use super::super::row::Writing;
 use super::Station;
-use super::view::row_mut;
 use labels::LabelSystem;
 
 // No record as `Served` for what these calls and `earlier` answer: each has its own kind, and a clause is no longer.
@@ -24,7 +23,7 @@ impl<S: LabelSystem> Station<S> {
         let label = self
             .standing_choice(seat)
             .ok_or(Reason::NoLabelLeft.about(seat))?;
-        row_mut(&mut self.rows, seat)?.writing = Some(Writing { label, map });
+        self.row_mut(seat)?.writing = Some(Writing { label, map });
         Ok(())
     }
 
@@ -32,7 +31,7 @@ impl<S: LabelSystem> Station<S> {
     pub fn strike(&mut self, seat: u8) -> Result<(), Refusal>
         ensures { Served S.meaning self.old self.new (Call.Strike seat) (told (λ _. Done) result) }
     {
-        let row = row_mut(&mut self.rows, seat)?;
+        let row = self.row_mut(seat)?;
         row.standing(seat)?;
         row.writing = None;
         Ok(())

@@ -1,7 +1,7 @@
 ghost use Rattle.std.specs.Prelude.{◌≡◌, ◌≤◌, true, false, [], MatchResult};
 ghost use Rattle.station.specs.declared.refusal.Reason.TheVariants.{NoSuchSeat};
 ghost use Rattle.std.specs.Borrow.{sem};
-ghost use Rattle.station.specs.Lending.{LendsRow};
+ghost use Rattle.station.specs.Lending.{LendsRow, LendsRowOf};
 ghost use Rattle.station.specs.Given.{granted};
 ghost use Rattle.station.specs.Table.{seated, row_of, opened_for};
 ghost use Rattle.station.specs.View.{table};
@@ -34,6 +34,16 @@ impl<S: LabelSystem> Station<S> {
             .ok_or(Reason::NoSuchSeat.about(seat))
     }
 
+    /// The row of a seat, lent to be changed, where the seat is one of the station's.
+    #[tactic(auto, using(crate::proofs::Same::same_loan))]
+    #[inline(always)]
+    pub(crate) fn row_mut(&mut self, seat: u8) -> Result<&mut Row, Refusal>
+        ensures* lends { sem 𝓛 (LendsRow S.row self.entry seat result) }
+        ensures value { MatchResult result (λ row. (seated (table self.old) seat ≡ true) × (row.now ≡ row_of (table self.old) seat)) (λ e. (seated (table self.old) seat ≡ false) × (e ≡ record { reason = NoSuchSeat; seat = seat })) }
+    {
+        row_of_mut(&mut self.rows, seat)
+    }
+
     /// Gives the station its seats, idle and without writing.
     pub(crate) fn seat(&mut self, seats: u8)
         requires { seats ≤ 20 }
@@ -46,12 +56,12 @@ impl<S: LabelSystem> Station<S> {
 }
 
 /// The row of a seat, lent to be changed, where the seat is one of those that have rows.
-// Over the rows alone, since a station says how many they are at most, and no proof follows a row lent past that.
-pub(crate) fn row_mut<const ROOM: usize>(
+// Over the rows alone: past the station's ghost field no clause on a loan is proved of a body that takes it apart.
+pub(crate) fn row_of_mut<const ROOM: usize>(
     rows: &mut ArrayVec<Row, ROOM>,
     seat: u8,
 ) -> Result<&mut Row, Refusal>
-    ensures* lends { sem 𝓛 (LendsRow ROOM.row rows.entry seat result) }
+    ensures* lends { sem 𝓛 (LendsRowOf ROOM.row rows.entry seat result) }
     ensures value { MatchResult result (λ row. (seated rows.old.items seat ≡ true) × (row.now ≡ row_of rows.old.items seat)) (λ e. (seated rows.old.items seat ≡ false) × (e ≡ record { reason = NoSuchSeat; seat = seat })) }
 {
     if seat == 0 {
