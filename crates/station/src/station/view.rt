@@ -35,6 +35,7 @@ impl<S: LabelSystem> Station<S> {
     }
 
     /// The row of a seat, lent to be changed, where the seat is one of the station's.
+    // Inlined, since it only passes on what the rows lend.
     #[tactic(auto, using(crate::proofs::Same::same_loan))]
     #[inline(always)]
     pub(crate) fn row_mut(&mut self, seat: u8) -> Result<&mut Row, Refusal>
@@ -56,7 +57,7 @@ impl<S: LabelSystem> Station<S> {
 }
 
 /// The row of a seat, lent to be changed, where the seat is one of those that have rows.
-// Over the rows alone: past the station's ghost field no clause on a loan is proved of a body that takes it apart.
+// Over the rows alone: past the station's ghost field the clause on the loan isn't proved of a body that takes it apart.
 pub(crate) fn row_of_mut<const ROOM: usize>(
     rows: &mut ArrayVec<Row, ROOM>,
     seat: u8,
